@@ -15,9 +15,9 @@ const WAITING: usize = 4096;
 
 /// A latch with a buffer before it, for an output of many pieces.
 ///
-/// Pieces are handed over one after another, and no answer is asked for any of them: the latch stays
-/// failed from its first failure on, so `flush` tells once, at the end, whether all came through. What
-/// still waits when this is let go is lost.
+/// Pieces are handed over one after another, and no answer is asked for any of them: the latch
+/// stays failed from its first failure on, so `flush` tells once, at the end, whether all came
+/// through. What still waits when this is let go is lost.
 #[derive(Drop)]
 pub struct BufferedLatch<'a, W> {
     waiting: ArrayVec<u8, WAITING>,
@@ -44,8 +44,8 @@ impl<'a, W: Write> BufferedLatch<'a, W> {
         self.latch.failed()
     }
 
-    /// Hands bytes over. They wait, or what waited is written and they wait then, or they are written
-    /// too: more than 4,096 bytes are not copied.
+    /// Hands bytes over. They wait, or what waited is written and they wait then, or they are
+    /// written too: more than 4,096 bytes are not copied.
     #[tactic(auto, unfolding(crate::specs::Buffered::Puts))]
     pub fn put(&mut self, bytes: &[u8])
         ensures { Puts W.contents self.old self.new bytes.now }
@@ -67,8 +67,8 @@ impl<'a, W: Write> BufferedLatch<'a, W> {
         self.put(digits.format(number).as_bytes());
     }
 
-    /// Writes what waits, and tells whether all bytes that were handed over came through. Nothing waits
-    /// then.
+    /// Writes what waits, and tells whether all bytes that were handed over came through. Nothing
+    /// waits then.
     ///
     /// `Write` (37) where the latch has failed, before or in this call. The writer has then taken a
     /// prefix of all that was handed over.

@@ -17,13 +17,13 @@ use std::marker::Model;
 /// How many reads a latch allows: 16,777,216.
 const READS_ALLOWED: u32 = 16_777_216;
 
-/// How many bytes `get_all` asks for in one read: enough that a large file takes few reads, and little
-/// enough to stand among the locals.
+/// How many bytes `get_all` asks for in one read: enough that a large file takes few reads, and
+/// little enough to stand among the locals.
 const PIECE: usize = 65_536;
 
 /// A reader or a writer that fails once and for all: at the first error of the value in it, of an
-/// interrupted call too, at a write that takes no byte of a piece that has some, and at the read after
-/// its 16,777,216th.
+/// interrupted call too, at a write that takes no byte of a piece that has some, and at the read
+/// after its 16,777,216th.
 ///
 /// In clauses it is the record of `inner`, `failed` and `reads_left`.
 #[derive(Drop)]
@@ -102,7 +102,8 @@ impl<W: Write> Latch<W> {
     pub fn put(&mut self, bytes: &[u8]) -> Result<(), LatchFault>
         ensures whole { OnOk result (
             Appends (W.contents self.old.inner) (W.contents self.new.inner) bytes.now) }
-        ensures prefix { AppendsPrefix (W.contents self.old.inner) (W.contents self.new.inner) bytes.now }
+        ensures prefix { AppendsPrefix (W.contents self.old.inner) (W.contents self.new.inner)
+            bytes.now }
         ensures refusal { IfErr result (λ fault. fault ≡ WriteFault) }
         ensures refused_when_failed { self.new.failed ≡ is_err result }
         ensures stays_failed { self.old.failed ≡ true → self.new ≡ self.old }
@@ -123,7 +124,8 @@ impl<W: Write> Latch<W> {
         requires some { 0 < length piece.now }
         ensures taken { IfOk result (λ count. 0 < count) }
         ensures within { IfOk result (λ count. count ≤ length piece.now) }
-        ensures bytes { WriteAppends (W.contents self.old.inner) (W.contents self.new.inner) result piece.now }
+        ensures bytes { WriteAppends (W.contents self.old.inner) (W.contents self.new.inner) result
+            piece.now }
         ensures refusal { IfErr result (λ fault. fault ≡ WriteFault) }
         ensures refused_when_failed { self.new.failed ≡ is_err result }
         ensures no_read { self.new.reads_left ≡ self.old.reads_left }
@@ -139,12 +141,13 @@ impl<R: Read> Latch<R> {
     /// One read into `buffer`, and how many bytes it gave: 0 at the end of the reader, or where
     /// `buffer` has no room.
     ///
-    /// `Read` (45) where the latch has failed, before or in this call. Nothing was consumed then, and
-    /// the reader was not asked, and `buffer` is as it was, where the latch had failed before or allowed
-    /// no more reads. What `buffer` holds after a read that failed is the reader's.
+    /// `Read` (45) where the latch has failed, before or in this call. Nothing was consumed then,
+    /// and the reader was not asked, and `buffer` is as it was, where the latch had failed before
+    /// or allowed no more reads. What `buffer` holds after a read that failed is the reader's.
     pub fn get(&mut self, buffer: &mut [u8]) -> Result<usize, LatchFault>
         ensures bound { ReadsAtMost result buffer.new }
-        ensures bytes { ReadConsumes (R.remaining self.old.inner) (R.remaining self.new.inner) result buffer.new }
+        ensures bytes { ReadConsumes (R.remaining self.old.inner) (R.remaining self.new.inner)
+            result buffer.new }
         ensures refusal { IfErr result (λ fault. fault ≡ ReadFault) }
         ensures refused_when_failed { self.new.failed ≡ is_err result }
         ensures stays_failed { self.old.failed ≡ true → self.new ≡ self.old }
@@ -167,9 +170,9 @@ impl<R: Read> Latch<R> {
 
     /// Reads to the end, and gives all the bytes that were left.
     ///
-    /// `Read` (45) where the latch has failed, before or in this call; `Memory` (0) where an allocation
-    /// failed, and the latch has not failed then. Either way the bytes that were read by then are
-    /// gone.
+    /// `Read` (45) where the latch has failed, before or in this call; `Memory` (0) where an
+    /// allocation failed, and the latch has not failed then. Either way the bytes that were read by
+    /// then are gone.
     pub fn get_all<A: Allocator>(&mut self, alloc: A) -> Result<Vec<u8, A>, LatchFault>
         ensures whole { IfOk result (λ bytes.
             IfSome (R.remaining self.old.inner) (λ left. bytes.items ≡ left)) }

@@ -1,10 +1,10 @@
 //! A reader or a writer that stays failed from its first failure on.
 //!
-//! A loop over a plain reader need not end, and after an error nobody can say how far a plain writer
-//! came. A [`Latch`] round either one fails at the first error of the value in it, and from then on
-//! refuses every call and does not ask that value again. So a user passes a refusal on, and nothing
-//! is ever written after a gap. Who writes many pieces puts a [`BufferedLatch`] before the latch, hands
-//! over one after another, and asks once, at the end.
+//! A loop over a plain reader need not end, and after an error nobody can say how far a plain
+//! writer came. A [`Latch`] round either one fails at the first error of the value in it, and from
+//! then on refuses every call and does not ask that value again. So a user passes a refusal on, and
+//! nothing is ever written after a gap. Who writes many pieces puts a [`BufferedLatch`] before the
+//! latch, hands over one after another, and asks once, at the end.
 //!
 //! ```rust
 //! use base_io::{BufferedLatch, Latch};
@@ -25,8 +25,9 @@
 //! }
 //! ```
 //!
-//! Two things are shown by the tests alone, since no clause can name the error of a reader or writer
-//! of any type: that a latch does not fail by itself, and that an interrupted call is not tried again.
+//! Two things are shown by the tests alone, since no clause can name the error of a reader or
+//! writer of any type: that a latch does not fail by itself, and that an interrupted call is not
+//! tried again.
 #![tactic(auto)]
 
 mod buffered;

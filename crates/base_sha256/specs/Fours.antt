@@ -3,4 +3,5 @@ use Rattle.std.specs.Prelude.{◌≡◌, ℕ, ◌+◌, List, [], ◌∷◌, slic
 
 -- the four words from place t on
 abbrev pub AreWordsFrom : ℕ → List ℕ → List ℕ → Type 0
-AreWordsFrom t ws four = four ≡ slice_index ws t ∷ slice_index ws (t + 1) ∷ slice_index ws (t + 2) ∷ slice_index ws (t + 3) ∷ []
+AreWordsFrom t ws four = four ≡ slice_index ws t ∷ slice_index ws (t + 1) ∷ slice_index ws (t + 2)
+    ∷ slice_index ws (t + 3) ∷ []

@@ -5,4 +5,5 @@ use Rattle.base_sha256.specs.declared.sha256_stream.Sha256Stream.{Sha256Stream}
 
 -- these bytes have come: whole blocks, which are in the hash value
 abbrev pub Holds : Sha256Stream → List ℕ → Type 0
-Holds s m = (s.len ≡ length m % 2 ^ 64) × (length m % 64 ≡ 0) × (s.state ≡ hash_after initial_hash_256 m (length m / 64))
+Holds s m = (s.len ≡ length m % 2 ^ 64) × (length m % 64 ≡ 0)
+    × (s.state ≡ hash_after initial_hash_256 m (length m / 64))

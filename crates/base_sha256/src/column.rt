@@ -1,4 +1,5 @@
-//! Rows of words, one word for each lane: so the compiler finds the lanes of each row side by side, and does not have to lay them so.
+//! Rows of words, one word for each lane: so the compiler finds the lanes of each row side by side,
+//! and does not have to lay them so.
 
 ghost use Rattle.std.specs.Prelude.{◌≡◌, ◌≢◌, ℕ, ◌<◌, slice_index};
 ghost use Rattle.base_sha256.specs.Lanes.{column};

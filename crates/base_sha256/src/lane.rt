@@ -1,6 +1,7 @@
 //! Messages on their way through the rounds, several at a time.
 
-ghost use Rattle.std.specs.Prelude.{◌≡◌, ◌+◌, ◌*◌, ◌/◌, ◌%◌, ◌<◌, ◌≤◌, All, IfOk, List, ℕ, drop, get_or, length, map, slice_index, take};
+ghost use Rattle.std.specs.Prelude.{◌≡◌, ◌+◌, ◌*◌, ◌/◌, ◌%◌, ◌<◌, ◌≤◌, All, IfOk, List, ℕ, drop};
+ghost use Rattle.std.specs.Prelude.{get_or, length, map, slice_index, take};
 ghost use Rattle.sha2.specs.Sha256.{hash_after, initial_hash_256, sha256};
 ghost use Rattle.base_sha256.specs.Lanes.{AreAfter, AreWordsAt, HaveLeft, block};
 
@@ -37,7 +38,8 @@ impl<'a> Lane<'a> {
     // What a lane keeps.
     fn known(&self)
         ensures within { self.now.blocks * 64 ≤ length self.now.message.now }
-        ensures held { self.now.state ≡ hash_after initial_hash_256 self.now.message.now self.now.blocks }
+        ensures held { self.now.state ≡ hash_after initial_hash_256 self.now.message.now
+            self.now.blocks }
     {}
 
     // How many whole blocks are left.
@@ -99,8 +101,10 @@ fn finished(lane: &Lane<'_>) -> [u8; 32]
 // How many blocks of each message are in its state once `count` more are.
 fn blocks_after<const N: usize>(lanes: &[Lane<'_>], places: &[usize; N], count: usize) -> [usize; N]
     requires within { All (λ place. place < length lanes.now) places.now }
-    requires left { HaveLeft count (map (λ lane. lane.message.now) lanes.now) (map (λ lane. lane.blocks) lanes.now) places.now }
-    ensures { (k : ℕ) → k < N → slice_index result k ≡ get_or (map (λ lane. lane.blocks) lanes.now) (slice_index places.now k) 0 + count }
+    requires left { HaveLeft count (map (λ lane. lane.message.now) lanes.now)
+        (map (λ lane. lane.blocks) lanes.now) places.now }
+    ensures { (k : ℕ) → k < N → slice_index result k ≡ get_or (map (λ lane. lane.blocks) lanes.now)
+        (slice_index places.now k) 0 + count }
 {
     let mut blocks = [0; N];
     'each: for k in 0..N {
@@ -112,7 +116,8 @@ fn blocks_after<const N: usize>(lanes: &[Lane<'_>], places: &[usize; N], count: 
 // The state of each message.
 fn states_at<const N: usize>(lanes: &[Lane<'_>], places: &[usize; N]) -> [[u32; N]; 8]
     requires { All (λ place. place < length lanes.now) places.now }
-    ensures { AreAfter 0 (map (λ lane. lane.message.now) lanes.now) (map (λ lane. lane.blocks) lanes.now) places.now result }
+    ensures { AreAfter 0 (map (λ lane. lane.message.now) lanes.now)
+        (map (λ lane. lane.blocks) lanes.now) places.now result }
 {
     let mut states = [[0u32; N]; 8];
     'each: for k in 0..N {
@@ -126,7 +131,8 @@ fn states_at<const N: usize>(lanes: &[Lane<'_>], places: &[usize; N]) -> [[u32; 
 // How many blocks each of the messages has left at least.
 fn least_left<const N: usize>(lanes: &[Lane<'_>], places: &[usize; N]) -> usize
     requires { All (λ place. place < length lanes.now) places.now }
-    ensures { HaveLeft result (map (λ lane. lane.message.now) lanes.now) (map (λ lane. lane.blocks) lanes.now) places.now }
+    ensures { HaveLeft result (map (λ lane. lane.message.now) lanes.now)
+        (map (λ lane. lane.blocks) lanes.now) places.now }
 {
     let mut least = usize::MAX;
     'each: for k in 0..N {
@@ -144,8 +150,10 @@ fn take_words<const N: usize>(
 )
     requires fours { N % 4 ≡ 0 }
     requires within { All (λ place. place < length lanes.now) places.now }
-    requires left { HaveLeft (i + 1) (map (λ lane. lane.message.now) lanes.now) (map (λ lane. lane.blocks) lanes.now) places.now }
-    ensures { AreWordsAt i (map (λ lane. lane.message.now) lanes.now) (map (λ lane. lane.blocks) lanes.now) places.now words.new }
+    requires left { HaveLeft (i + 1) (map (λ lane. lane.message.now) lanes.now)
+        (map (λ lane. lane.blocks) lanes.now) places.now }
+    ensures { AreWordsAt i (map (λ lane. lane.message.now) lanes.now)
+        (map (λ lane. lane.blocks) lanes.now) places.now words.new }
 {
     'each: for k in 0..N / 4 {
         put_blocks(
@@ -168,8 +176,10 @@ fn states_after<const N: usize>(
     requires few { N ≤ 8 }
     requires fours { N % 4 ≡ 0 }
     requires within { All (λ place. place < length lanes.now) places.now }
-    requires left { HaveLeft count (map (λ lane. lane.message.now) lanes.now) (map (λ lane. lane.blocks) lanes.now) places.now }
-    ensures { AreAfter count (map (λ lane. lane.message.now) lanes.now) (map (λ lane. lane.blocks) lanes.now) places.now result }
+    requires left { HaveLeft count (map (λ lane. lane.message.now) lanes.now)
+        (map (λ lane. lane.blocks) lanes.now) places.now }
+    ensures { AreAfter count (map (λ lane. lane.message.now) lanes.now)
+        (map (λ lane. lane.blocks) lanes.now) places.now result }
 {
     let mut states = states_at(lanes, places);
     let mut words = [[0; N]; 16];
@@ -180,8 +190,8 @@ fn states_after<const N: usize>(
     states
 }
 
-// Takes as many blocks of the messages at some places as each of them has left. A message whose place stands there twice is
-// written twice, the same both times.
+// Takes as many blocks of the messages at some places as each of them has left. A message whose
+// place stands there twice is written twice, the same both times.
 fn turn<const N: usize>(lanes: &mut [Lane<'_>], places: &[usize; N])
     requires few { N ≤ 8 }
     requires fours { N % 4 ≡ 0 }
@@ -211,12 +221,14 @@ fn first_done<const N: usize>(lanes: &[Lane<'_>], places: &[usize; N]) -> usize
     0
 }
 
-// Leaves the message at place `done` out of `live + 1` messages. The lanes behind them repeat the first one's.
+// Leaves the message at place `done` out of `live + 1` messages. The lanes behind them repeat the
+// first one's.
 fn leave_out<const N: usize>(places: &mut [usize; N], done: usize, live: usize)
     requires done { done < N }
     requires live { live < N }
     ensures size { length places.new ≡ N }
-    ensures within { (n : ℕ) → All (λ place. place < n) places.old → All (λ place. place < n) places.new }
+    ensures within { (n : ℕ) → All (λ place. place < n) places.old
+        → All (λ place. place < n) places.new }
 {
     places[done] = places[live];
     'each: for k in live..N {
@@ -224,8 +236,8 @@ fn leave_out<const N: usize>(places: &mut [usize; N], done: usize, live: usize)
     }
 }
 
-// Takes blocks of the messages into their states, N messages at a time, until fewer than `least` are left. A lane with no message of
-// its own repeats another's.
+// Takes blocks of the messages into their states, N messages at a time, until fewer than `least`
+// are left. A lane with no message of its own repeats another's.
 fn advance_lanes<const N: usize>(lanes: &mut [Lane<'_>], least: usize)
     requires few { N ≤ 8 }
     requires fours { N % 4 ≡ 0 }
@@ -258,7 +270,8 @@ fn advance_lanes<const N: usize>(lanes: &mut [Lane<'_>], least: usize)
     }
 }
 
-// Takes blocks of the messages into their states, until it is quicker to go on with one after another.
+// Takes blocks of the messages into their states, until it is quicker to go on with one after
+// another.
 fn advance(lanes: &mut [Lane<'_>])
     ensures { map (λ lane. lane.message.now) lanes.new ≡ map (λ lane. lane.message.now) lanes.old }
 {
@@ -266,13 +279,14 @@ fn advance(lanes: &mut [Lane<'_>])
     advance_lanes::<4>(lanes, 3);
 }
 
-/// The SHA-256 digest of each message, in their order (FIPS 180-4). Four of one length take about half of the time that they take
-/// one by one. Refused only where an allocation failed.
+/// The SHA-256 digest of each message, in their order (FIPS 180-4). Four of one length take about
+/// half of the time that they take one by one. Refused only where an allocation failed.
 pub fn digests_of<A: Allocator + Clone>(
     alloc: A,
     messages: &[&[u8]],
 ) -> Result<Vec<[u8; 32], A>, AllocError>
-    ensures { IfOk result (λ digests. digests.items ≡ map (λ message. sha256 message.now) messages.now) }
+    ensures { IfOk result (λ digests. digests.items ≡ map (λ message. sha256 message.now)
+        messages.now) }
 {
     let mut lanes = Vec::new(alloc.clone()?);
     'begin: for message in messages {

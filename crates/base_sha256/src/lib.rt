@@ -1,8 +1,8 @@
 //! The SHA-256 digest (FIPS 180-4) of a message, and the digests of many, several at a time.
 //!
-//! One digest after another waits for itself: each round of SHA-256 needs the one before it. The rounds of several messages do not wait
-//! for each other, and lie in the lanes of vector registers, so that four messages of one length take about half of the time that
-//! they take one by one.
+//! One digest after another waits for itself: each round of SHA-256 needs the one before it. The
+//! rounds of several messages do not wait for each other, and lie in the lanes of vector registers,
+//! so that four messages of one length take about half of the time that they take one by one.
 //!
 //! ```rust
 //! use base_sha256::{Hashing, digests_of, sha256_of};
@@ -25,11 +25,13 @@
 //! }
 //! ```
 //!
-//! Messages may be of any lengths and any number. Eight go on together as long as there are so many, then four, and one that ends makes
-//! room for the next; three go on together too, and what one or two messages have left is worked out by itself, as `sha256_of` does it:
-//! there the schedule of the words lies in vectors. In `rounds` the vectors are the compiler's: the loop over the lanes has a body of
-//! plain whole numbers, which it lays side by side, four at a time or, on a processor with longer registers, eight. It finds them so in
-//! memory: states and words lie in rows, each of which has a word for each lane (`column`, `transposing`).
+//! Messages may be of any lengths and any number. Eight go on together as long as there are so
+//! many, then four, and one that ends makes room for the next; three go on together too, and what
+//! one or two messages have left is worked out by itself, as `sha256_of` does it: there the
+//! schedule of the words lies in vectors. In `rounds` the vectors are the compiler's: the loop over
+//! the lanes has a body of plain whole numbers, which it lays side by side, four at a time or, on a
+//! processor with longer registers, eight. It finds them so in memory: states and words lie in
+//! rows, each of which has a word for each lane (`column`, `transposing`).
 #![tactic(auto)]
 
 mod column;

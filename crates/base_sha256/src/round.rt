@@ -5,12 +5,14 @@ ghost use Rattle.sha2.specs.Sha256.{add32, add_state, big_sigma1, round};
 
 use crate::words::{big_sigma0, ch, maj};
 
-/// A round of a word and a constant, which are added up already: their sum waits for no round. Σ1 of the fifth variable comes along,
-/// since its best form depends on how many messages go on together.
+/// A round of a word and a constant, which are added up already: their sum waits for no round. Σ1
+/// of the fifth variable comes along, since its best form depends on how many messages go on
+/// together.
 #[inline(always)]
 pub(crate) fn round(variables: [u32; 8], sum: u32, sigma1: u32) -> [u32; 8]
     requires { sigma1 ≡ big_sigma1 (slice_index variables 4) }
-    ensures { (constant word : ℕ) → sum ≡ add32 word constant → result ≡ round variables constant word }
+    ensures { (constant word : ℕ) → sum ≡ add32 word constant → result
+        ≡ round variables constant word }
 {
     let [a, b, c, d, e, f, g, h] = variables;
     let first = h

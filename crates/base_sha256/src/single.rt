@@ -1,9 +1,11 @@
-//! One message by itself. Its rounds wait for each other, but its schedule does not wait for its rounds: four words of it at a time
-//! lie in the lanes of a vector.
+//! One message by itself. Its rounds wait for each other, but its schedule does not wait for its
+//! rounds: four words of it at a time lie in the lanes of a vector.
 
-ghost use Rattle.std.specs.Prelude.{◌≡◌, ℕ, ◌+◌, ◌-◌, ◌*◌, ◌/◌, ◌%◌, ◌^◌, ◌<◌, ◌≤◌, List, [], ◌∷◌, bit_or, length, map, slice_index};
+ghost use Rattle.std.specs.Prelude.{◌≡◌, ℕ, ◌+◌, ◌-◌, ◌*◌, ◌/◌, ◌%◌, ◌^◌, ◌<◌, ◌≤◌, List, [], ◌∷◌};
+ghost use Rattle.std.specs.Prelude.{bit_or, length, map, slice_index};
 ghost use Rattle.std.specs.Simd.Lanes.{zip2};
-ghost use Rattle.sha2.specs.Sha256.{add32, compress, hash_after, round_constants, rounds, schedule, small_sigma0, small_sigma1, word_at};
+ghost use Rattle.sha2.specs.Sha256.{add32, compress, hash_after, round_constants, rounds, schedule};
+ghost use Rattle.sha2.specs.Sha256.{small_sigma0, small_sigma1, word_at};
 ghost use Rattle.base_sha256.specs.Fours.{AreWordsFrom};
 
 use crate::constants::ROUND_CONSTANTS;
@@ -39,7 +41,8 @@ fn small_sigma1_of(words: u32x4) -> u32x4
 #[inline(always)]
 fn four_words(bytes: &[u8]) -> u32x4
     requires { 16 ≤ length bytes.now }
-    ensures { result ≡ word_at bytes.now 0 ∷ word_at bytes.now 4 ∷ word_at bytes.now 8 ∷ word_at bytes.now 12 ∷ [] }
+    ensures { result ≡ word_at bytes.now 0 ∷ word_at bytes.now 4 ∷ word_at bytes.now 8
+        ∷ word_at bytes.now 12 ∷ [] }
 {
     u32x4::from_le_bytes(u8x16::from_slice(bytes).swizzle([
         3, 2, 1, 0, 7, 6, 5, 4, 11, 10, 9, 8, 15, 14, 13, 12,
@@ -56,11 +59,14 @@ pub(crate) fn first_four(block: &[u8], t: usize) -> u32x4
     four_words(&block[4 * t..])
 }
 
-// The four words behind sixteen. The last two of them stand on the first two, so those are worked out before.
+// The four words behind sixteen. The last two of them stand on the first two, so those are worked
+// out before.
 #[inline(always)]
 fn next_four(a: u32x4, b: u32x4, c: u32x4, d: u32x4) -> u32x4
-    ensures { (m : List ℕ) (t : ℕ) → 16 ≤ t → t + 4 ≤ 64 → AreWordsFrom (t - 16) (schedule m 48) a → AreWordsFrom (t - 12) (schedule m 48) b
-        → AreWordsFrom (t - 8) (schedule m 48) c → AreWordsFrom (t - 4) (schedule m 48) d → AreWordsFrom t (schedule m 48) result }
+    ensures { (m : List ℕ) (t : ℕ) → 16 ≤ t → t + 4 ≤ 64 → AreWordsFrom (t - 16) (schedule m 48) a
+        → AreWordsFrom (t - 12) (schedule m 48) b
+        → AreWordsFrom (t - 8) (schedule m 48) c → AreWordsFrom (t - 4) (schedule m 48) d
+            → AreWordsFrom t (schedule m 48) result }
 {
     let sums = a + c.shuffle(d, [1, 2, 3, 4]) + small_sigma0_of(a.shuffle(b, [1, 2, 3, 4]));
     let low = sums + small_sigma1_of(d.swizzle([2, 3, 2, 3]));
@@ -72,7 +78,8 @@ fn next_four(a: u32x4, b: u32x4, c: u32x4, d: u32x4) -> u32x4
 #[inline(always)]
 fn with_constants(words: u32x4, t: usize) -> [u32; 4]
     requires { t + 4 ≤ 64 }
-    ensures { result ≡ zip2 add32 words (slice_index round_constants t ∷ slice_index round_constants (t + 1)
+    ensures { result ≡ zip2 add32 words (slice_index round_constants t
+        ∷ slice_index round_constants (t + 1)
         ∷ slice_index round_constants (t + 2) ∷ slice_index round_constants (t + 3) ∷ []) }
 {
     let constants = u32x4::from_array([
@@ -88,7 +95,8 @@ fn with_constants(words: u32x4, t: usize) -> [u32; 4]
 #[inline(always)]
 fn four_rounds(variables: [u32; 8], words: u32x4, t: usize) -> [u32; 8]
     requires { t + 4 ≤ 64 }
-    ensures { (m h : List ℕ) → AreWordsFrom t (schedule m 48) words → variables ≡ rounds h (schedule m 48) t → result ≡ rounds h (schedule m 48) (t + 4) }
+    ensures { (m h : List ℕ) → AreWordsFrom t (schedule m 48) words → variables
+        ≡ rounds h (schedule m 48) t → result ≡ rounds h (schedule m 48) (t + 4) }
 {
     let [p, q, r, s] = with_constants(words, t);
     let v = round(variables, p, big_sigma1_flat(variables[4]));
@@ -97,8 +105,8 @@ fn four_rounds(variables: [u32; 8], words: u32x4, t: usize) -> [u32; 8]
     round(v, s, big_sigma1_flat(v[4]))
 }
 
-// Takes one block into a hash value. Nothing here is a loop, so the words stay in registers; and nothing but `absorb` calls it, so the
-// compiler lays it into the loop there.
+// Takes one block into a hash value. Nothing here is a loop, so the words stay in registers; and
+// nothing but `absorb` calls it, so the compiler lays it into the loop there.
 fn compress(state: &mut [u32; 8], block: &[u8])
     requires { length block.now ≡ 64 }
     ensures { state.new ≡ compress state.old block.now }

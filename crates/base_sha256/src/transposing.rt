@@ -1,6 +1,7 @@
 //! The words of blocks side by side: row t has the t-th word of each block.
 
-ghost use Rattle.std.specs.Prelude.{◌≡◌, ◌≢◌, ◌⊎◌, ◌∷◌, [], ℕ, List, ◌+◌, ◌<◌, ◌≤◌, length, slice_index};
+ghost use Rattle.std.specs.Prelude.{◌≡◌, ◌≢◌, ◌⊎◌, ◌∷◌, [], ℕ, List, ◌+◌, ◌<◌, ◌≤◌, length};
+ghost use Rattle.std.specs.Prelude.{slice_index};
 ghost use Rattle.sha2.specs.Sha256.{IsWindow, schedule};
 ghost use Rattle.base_sha256.specs.Lanes.{column, four_columns};
 
@@ -27,7 +28,8 @@ fn transposed(a: u32x4, b: u32x4, c: u32x4, d: u32x4) -> [u32x4; 4]
 fn put<const N: usize>(row: &mut [u32; N], lane: usize, four: u32x4)
     requires { lane + 4 ≤ N }
     ensures here { (j : ℕ) → j < 4 → slice_index row.new (lane + j) ≡ slice_index four j }
-    ensures others { (k : ℕ) → k < lane ⊎ lane + 4 ≤ k → slice_index row.new k ≡ slice_index row.old k }
+    ensures others { (k : ℕ) → k < lane ⊎ lane + 4 ≤ k → slice_index row.new k
+        ≡ slice_index row.old k }
 {
     let lanes = &mut row[..];
     four.copy_to_slice(&mut lanes[lane..]);
@@ -39,8 +41,10 @@ fn put_row<const N: usize>(rows: &mut [[u32; N]; 16], t: usize, lane: usize, fou
     requires row { t < 16 }
     requires lanes { lane + 4 ≤ N }
     ensures size { length rows.new ≡ 16 }
-    ensures here { (j : ℕ) → j < 4 → slice_index (column (lane + j) rows.new) t ≡ slice_index four j }
-    ensures rest { (k u : ℕ) → u ≢ t → slice_index (column k rows.new) u ≡ slice_index (column k rows.old) u }
+    ensures here { (j : ℕ) → j < 4 → slice_index (column (lane + j) rows.new) t
+        ≡ slice_index four j }
+    ensures rest { (k u : ℕ) → u ≢ t → slice_index (column k rows.new) u
+        ≡ slice_index (column k rows.old) u }
     ensures others { (k : ℕ) → k < lane ⊎ lane + 4 ≤ k → column k rows.new ≡ column k rows.old }
 {
     put(&mut rows[t], lane, four);

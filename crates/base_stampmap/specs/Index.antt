@@ -1,5 +1,6 @@
 -- Where items stand in a list, by their stamps. Working definitions.
-use Rattle.std.specs.Prelude.{◌≡◌, ℕ, Bool, false, List, Option, Some, None, Vec, slice_get, if◌then◌else◌}
+use Rattle.std.specs.Prelude.{◌≡◌, ℕ, Bool, false, List, Option, Some, None, Vec, slice_get}
+use Rattle.std.specs.Prelude.{if◌then◌else◌}
 use Rattle.std.specs.Option.{option_and_then}
 use Rattle.std.specs.BTreeMap.{BTreeMap, get}
 use Rattle.std.specs.Ordering.{nat_cmp}
@@ -8,7 +9,8 @@ use Rattle.base_stampmap.specs.declared.index.StampIndex.{StampIndex}
 
 -- the index at a stamp's number in the run of its replica
 abbrev pub in_run : {A : Type 0} → BTreeMap ℕ (Vec ℕ A) → Stamp → Option ℕ
-in_run runs stamp = option_and_then (λ run. slice_get run.items stamp.seq) (get nat_cmp runs stamp.replica.0)
+in_run runs stamp = option_and_then (λ run. slice_get run.items stamp.seq)
+    (get nat_cmp runs stamp.replica.0)
 
 -- where the item of a stamp stands, if it stands in the run of its replica
 abbrev pub first_place : {A : Type 0} → StampIndex A → Stamp → Option ℕ
@@ -39,8 +41,10 @@ module _ (ks : List Stamp) where
 
   -- the index that is found of a stamp
   abbrev pub index_in : {A : Type 0} → StampIndex A → Stamp → Option ℕ
-  index_in index stamp = or_else (checked (first_place index stamp) stamp) (checked (other_place index stamp) stamp)
+  index_in index stamp = or_else (checked (first_place index stamp) stamp)
+      (checked (other_place index stamp) stamp)
 
   -- each key is found at its index
   abbrev pub Finds : {A : Type 0} → StampIndex A → Type 0
-  Finds index = (k : ℕ) (stamp : Stamp) → slice_get ks k ≡ Some stamp → index_in index stamp ≡ Some k
+  Finds index = (k : ℕ) (stamp : Stamp) → slice_get ks k ≡ Some stamp → index_in index stamp
+      ≡ Some k

@@ -12,10 +12,12 @@ use std::collections::BTreeMap;
 // How many places of runs may stay empty for each entry.
 const EMPTY_FOR_EACH: usize = 8;
 
-/// Where items that have stamps stand in a list that grows at its end: for each replica a run, which has at the number of a stamp the index of its
-/// item. What would leave too many places of a run empty, or comes after a greater number of its replica, stands in a map by stamp.
+/// Where items that have stamps stand in a list that grows at its end: for each replica a run,
+/// which has at the number of a stamp the index of its item. What would leave too many places of a
+/// run empty, or comes after a greater number of its replica, stands in a map by stamp.
 ///
-/// It keeps four bytes for an item and no stamp: of each stamp it tells two places where its item may stand, and whoever asks looks whether it does.
+/// It keeps four bytes for an item and no stamp: of each stamp it tells two places where its item
+/// may stand, and whoever asks looks whether it does.
 #[derive(Drop)]
 pub struct StampIndex<A: Allocator = Global> {
     alloc: A,
@@ -24,14 +26,16 @@ pub struct StampIndex<A: Allocator = Global> {
     spare: usize,
 }
 
-// Puts an index into a run at a number, where that is behind its end and no more than `spare` places stay empty between.
+// Puts an index into a run at a number, where that is behind its end and no more than `spare`
+// places stay empty between.
 fn put_behind<A: Allocator>(
     run: &mut Vec<u32, A>,
     number: usize,
     index: u32,
     spare: &mut usize,
 ) -> Result<bool, AllocError>
-    ensures stays { (k i : ℕ) → slice_get run.old.items k ≡ Some i → slice_get run.new.items k ≡ Some i }
+    ensures stays { (k i : ℕ) → slice_get run.old.items k ≡ Some i → slice_get run.new.items k
+        ≡ Some i }
     ensures put { IfOk result (λ put. put ≡ true → slice_get run.new.items number ≡ Some index) }
 {
     if number < run.len() || number - run.len() > *spare {
@@ -102,12 +106,15 @@ impl<A: Allocator> StampIndex<A> {
         self.others.get(&stamp).copied()
     }
 
-    /// Notes the index of the item of a new stamp. Where an allocation failed, it tells of each other stamp what it told before.
+    /// Notes the index of the item of a new stamp. Where an allocation failed, it tells of each
+    /// other stamp what it told before.
     pub fn point(&mut self, stamp: Stamp, index: usize) -> Result<(), AllocError>
     where
         A: Clone,
-        ensures stays { (s : Stamp) (i : ℕ) → first_place self.old s ≡ Some i → first_place self.new s ≡ Some i }
-        ensures others { (s : Stamp) → stamp_eq stamp s ≡ false → other_place self.new s ≡ other_place self.old s }
+        ensures stays { (s : Stamp) (i : ℕ) → first_place self.old s ≡ Some i
+            → first_place self.new s ≡ Some i }
+        ensures others { (s : Stamp) → stamp_eq stamp s ≡ false → other_place self.new s
+            ≡ other_place self.old s }
         ensures points { OnOk result ((first_place self.new stamp ≡ Some index)
             ⊎ (other_place self.new stamp ≡ Some index)) }
     {

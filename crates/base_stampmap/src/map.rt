@@ -1,6 +1,7 @@
 //! The map.
 
-ghost use Rattle.std.specs.Prelude.{◌≡◌, ◌++◌, ◌∷◌, [], Some, None, true, slice_get, option_copied, is_some, IfOk, OnOk, OnErr, MatchOption};
+ghost use Rattle.std.specs.Prelude.{◌≡◌, ◌++◌, ◌∷◌, [], Some, None, true, slice_get, option_copied};
+ghost use Rattle.std.specs.Prelude.{is_some, IfOk, OnOk, OnErr, MatchOption};
 ghost use Rattle.std.specs.Option.{option_copied_mut};
 ghost use Rattle.std.specs.Borrow.{sem};
 ghost use Rattle.std.specs.Map.{lookup, keys_of};
@@ -13,7 +14,8 @@ use mt_stamp::Stamp;
 use std::alloc::{AllocError, Allocator, Global};
 use std::marker::Model;
 
-/// A map from stamps to values. Contracts see it as the list of its entries in the order in which they were put in; no two have the same stamp.
+/// A map from stamps to values. Contracts see it as the list of its entries in the order in which
+/// they were put in; no two have the same stamp.
 #[derive(Drop)]
 pub struct StampMap<V: Drop, A: Allocator = Global> {
     entries: Vec<(Stamp, V), A>,
@@ -48,8 +50,8 @@ impl<V: Drop, A: Allocator> StampMap<V, A> {
         StampMap::with_capacity(alloc, 0)
     }
 
-    /// The empty map, with memory for so many entries: none of them moves while no more are put in. Refused only where memory was, or
-    /// the allocator could not be cloned.
+    /// The empty map, with memory for so many entries: none of them moves while no more are put in.
+    /// Refused only where memory was, or the allocator could not be cloned.
     pub fn with_capacity(alloc: A, capacity: usize) -> Result<Self, AllocError>
     where
         A: Clone,
@@ -72,7 +74,8 @@ impl<V: Drop, A: Allocator> StampMap<V, A> {
         }
     }
 
-    /// The index at which a stamp stands, if it has a value and its number comes after those that its replica had before; else any. It looks at no entry.
+    /// The index at which a stamp stands, if it has a value and its number comes after those that
+    /// its replica had before; else any. It looks at no entry.
     pub fn likely_index(&self, stamp: Stamp) -> usize {
         self.index.first_place(stamp).unwrap_or(usize::MAX)
     }
@@ -144,7 +147,8 @@ impl<V: Drop, A: Allocator> StampMap<V, A> {
 
     /// The value of a stamp, to change in place, and `None` where it has none.
     pub fn get_mut(&mut self, stamp: Stamp) -> Option<&mut V>
-        ensures* writes_back { sem 𝓛 (LendsValueIf V.row A.row A.Allocator self.entry stamp result) }
+        ensures* writes_back { sem 𝓛 (LendsValueIf V.row A.row A.Allocator self.entry stamp result)
+            }
         ensures value { option_copied_mut result ≡ lookup (stamp_eq stamp) self.old }
     {
         self.get_mut_near(usize::MAX, stamp)
@@ -152,7 +156,8 @@ impl<V: Drop, A: Allocator> StampMap<V, A> {
 
     /// The same, looked for first at an index, where `index_of` may have found it before.
     pub fn get_mut_near(&mut self, near: usize, stamp: Stamp) -> Option<&mut V>
-        ensures* writes_back { sem 𝓛 (LendsValueIf V.row A.row A.Allocator self.entry stamp result) }
+        ensures* writes_back { sem 𝓛 (LendsValueIf V.row A.row A.Allocator self.entry stamp result)
+            }
         ensures value { option_copied_mut result ≡ lookup (stamp_eq stamp) self.old }
     {
         match self.index_near(near, stamp) {
@@ -192,7 +197,8 @@ impl<V: Drop, A: Allocator> StampMap<V, A> {
         entries
     }
 
-    /// Puts a value in, last, under a stamp that has none. Refused only where an allocation failed; the map is then as it was.
+    /// Puts a value in, last, under a stamp that has none. Refused only where an allocation failed;
+    /// the map is then as it was.
     pub fn insert(&mut self, stamp: Stamp, value: V) -> Result<(), AllocError>
     where
         A: Clone,

@@ -26,7 +26,8 @@ abbrev pub begun_by : ℕ → List (List ℕ) → List (List ℕ)
 begun_by b [] = (b ∷ []) ∷ []
 begun_by b (line ∷ others) = (b ∷ line) ∷ others
 
--- The text is cut at each newline. A last newline ends the last line, and the empty text has no line.
+-- The text is cut at each newline. A last newline ends the last line, and the empty text has no
+-- line.
 abbrev pub lines : List ℕ → List (List ℕ)
 lines [] = []
 lines (b ∷ bs) = if b == newline then [] ∷ lines bs else begun_by b (lines bs)

@@ -22,7 +22,8 @@ pub fn append_word<A: Allocator>(
     label: &str,
     word: &str,
 ) -> Result<(), AllocError>
-    ensures { OnOk result (string_bytes text.new ≡ string_bytes text.old ++ (label.now ++ word.now)) }
+    ensures { OnOk result (string_bytes text.new ≡ string_bytes text.old ++ (label.now ++ word.now))
+        }
 {
     text.push_str(label)?;
     text.push_str(word)
@@ -34,7 +35,8 @@ pub fn append_number<A: Allocator>(
     label: &str,
     number: u64,
 ) -> Result<(), AllocError>
-    ensures { OnOk result (string_bytes text.new ≡ string_bytes text.old ++ (label.now ++ decimal number)) }
+    ensures { OnOk result (string_bytes text.new ≡ string_bytes text.old
+        ++ (label.now ++ decimal number)) }
 {
     let mut digits = Buffer::new();
     text.push_str(label)?;

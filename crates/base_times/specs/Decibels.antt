@@ -1,5 +1,8 @@
--- How levels are read (profile): `[+-]D[D[D]][.D]dB`, in decibels of an amplitude, that is of a field quantity (ISO 80000-3): x decibels are an amplitude of 10^(x/20).
-use Rattle.std.specs.Prelude.{ℕ, ◌+◌, ◌-◌, ◌*◌, ◌/◌, ◌%◌, ◌^◌, ◌==◌, ◌&&◌, nat_le, Bool, true, false, List, [], ◌∷◌, drop, length, slice_index, Option, Some, None, if◌then◌else◌}
+-- How levels are read (profile): `[+-]D[D[D]][.D]dB`, in decibels of an amplitude, that is of a
+-- field quantity (ISO 80000-3): x decibels are an amplitude of 10^(x/20).
+use Rattle.std.specs.Prelude.{ℕ, ◌+◌, ◌-◌, ◌*◌, ◌/◌, ◌%◌, ◌^◌, ◌==◌, ◌&&◌, nat_le, Bool, true}
+use Rattle.std.specs.Prelude.{false, List, [], ◌∷◌, drop, length, slice_index, Option, Some, None}
+use Rattle.std.specs.Prelude.{if◌then◌else◌}
 use Rattle.base_text.specs.Cutting.{◌>>=◌, cut}
 use Rattle.base_times.specs.Words.{point, number, passing}
 use Rattle.base_times.specs.declared.level.Level.{Level}
@@ -23,7 +26,8 @@ plus = 43
 abbrev pub few_digits : ℕ → List ℕ → Option ℕ
 few_digits most text = if nat_le (length text) most then number text else None
 
--- tenths of a decibel, of a text that is cut at its point: one to three digits, and perhaps one behind the point
+-- tenths of a decibel, of a text that is cut at its point: one to three digits, and perhaps one
+-- behind the point
 abbrev pub tenths_at : List ℕ → Option (List ℕ × List ℕ) → Option ℕ
 tenths_at text None = few_digits 3 text >>= λ n. Some (n * 10)
 tenths_at text (Some at) = do
@@ -48,7 +52,8 @@ signed_level text =
 
 -- what stands before a `dB` that ends the word, of which the `d` is its only one
 abbrev pub before_db : List ℕ → Option (List ℕ)
-before_db text = cut letter_d text >>= λ at. if length at.1 == 1 && slice_index at.1 0 == letter_b then Some at.0 else None
+before_db text = cut letter_d text >>= λ at. if length at.1 == 1
+    && slice_index at.1 0 == letter_b then Some at.0 else None
 
 -- the level that a word tells
 unfoldable pub level : List ℕ → Option Level
@@ -66,19 +71,23 @@ whole_amplitudes =
     1000000000000000 ∷ 1122018454301963 ∷ 1258925411794167 ∷ 1412537544622754 ∷ 1584893192461113
     ∷ 1778279410038922 ∷ 1995262314968879 ∷ 2238721138568339 ∷ 2511886431509580 ∷ 2818382931264453
     ∷ 3162277660168379 ∷ 3548133892335754 ∷ 3981071705534972 ∷ 4466835921509631 ∷ 5011872336272722
-    ∷ 5623413251903490 ∷ 6309573444801932 ∷ 7079457843841379 ∷ 7943282347242815 ∷ 8912509381337455 ∷ []
+    ∷ 5623413251903490 ∷ 6309573444801932 ∷ 7079457843841379 ∷ 7943282347242815 ∷ 8912509381337455
+        ∷ []
 
 -- and of 0 to 9 tenths of a decibel
 abbrev pub tenth_amplitudes : List ℕ
 tenth_amplitudes =
     1000000000000000 ∷ 1011579454259898 ∷ 1023292992280754 ∷ 1035142166679343 ∷ 1047128548050899
-    ∷ 1059253725177288 ∷ 1071519305237606 ∷ 1083926914021203 ∷ 1096478196143185 ∷ 1109174815262401 ∷ []
+    ∷ 1059253725177288 ∷ 1071519305237606 ∷ 1083926914021203 ∷ 1096478196143185 ∷ 1109174815262401
+        ∷ []
 
 -- the amplitude of so many tenths of a decibel under 200, rounded down
 unfoldable pub rest_amplitude : ℕ → ℕ
-rest_amplitude r = slice_index whole_amplitudes (r / 10) * slice_index tenth_amplitudes (r % 10) / unit
+rest_amplitude r = slice_index whole_amplitudes (r / 10) * slice_index tenth_amplitudes (r % 10) /
+    unit
 
--- The amplitude of a level. Each 20 decibels are one power of ten; below 0 decibels the level is so much above the next lower multiple of 20.
+-- The amplitude of a level. Each 20 decibels are one power of ten; below 0 decibels the level is so
+-- much above the next lower multiple of 20.
 unfoldable pub amplitude : Level → ℕ
 amplitude l =
     if l.below

@@ -3,7 +3,8 @@ use Rattle.std.specs.Prelude.{◌≡◌, ◌*◌, Some, None, true, false, [], r
 use Rattle.std.specs.Fmt.{digits}
 use Rattle.base_times.specs.Printing.{time_text}
 use Rattle.base_times.specs.Times.{seconds, clock, form, read_time}
-use Rattle.base_times.specs.Decibels.{tenths, signed_level, level, rest_amplitude, amplitude, amplitude_of, unit}
+use Rattle.base_times.specs.Decibels.{tenths, signed_level, level, rest_amplitude, amplitude}
+use Rattle.base_times.specs.Decibels.{amplitude_of, unit}
 
 -- ---- times
 

@@ -5,7 +5,8 @@ use Rattle.base_times.specs.declared.level.Level.{Level}
 use Rattle.base_times.specs.declared.fraction.Fraction.{Fraction}
 use Rattle.base_times.specs.Printing.{clock_text, milliseconds, time_text}
 use Rattle.base_times.specs.Times.{time, nearest_frame, frame, read_time}
-use Rattle.base_times.specs.Decibels.{unit, whole_amplitudes, tenth_amplitudes, rest_amplitude, amplitude}
+use Rattle.base_times.specs.Decibels.{unit, whole_amplitudes, tenth_amplitudes, rest_amplitude}
+use Rattle.base_times.specs.Decibels.{amplitude}
 use Rattle.base_times.specs.Nearest.{IsNearest}
 
 -- so many milliseconds
@@ -21,11 +22,14 @@ abbrev pub PrintedFrameIsRead : Type 0
 PrintedFrameIsRead = (rate frames : ℕ) → 1 ≤ rate → milliseconds rate frames < 2 ^ 64
     → read_time rate (time_text rate frames) ≡ frame rate (millis (milliseconds rate frames))
 
--- Where a millisecond is so many whole frames, that frame is printed as the same text again; and a frame at a whole millisecond comes back as itself.
+-- Where a millisecond is so many whole frames, that frame is printed as the same text again; and a
+-- frame at a whole millisecond comes back as itself.
 pub record WholeMillisecondsStay : Type 0 where
   pub same_text : (each frames : ℕ) → 1 ≤ each
-      → time_text (1000 * each) (nearest_frame (1000 * each) (millis (milliseconds (1000 * each) frames))) ≡ time_text (1000 * each) frames
-  pub same_frame : (each ms : ℕ) → 1 ≤ each → nearest_frame (1000 * each) (millis (milliseconds (1000 * each) (ms * each))) ≡ ms * each
+      → time_text (1000 * each) (nearest_frame (1000 * each)
+          (millis (milliseconds (1000 * each) frames))) ≡ time_text (1000 * each) frames
+  pub same_frame : (each ms : ℕ) → 1 ≤ each → nearest_frame (1000 * each)
+      (millis (milliseconds (1000 * each) (ms * each))) ≡ ms * each
 
 -- d is a root of n, rounded down
 abbrev pub IsRoot : ℕ → ℕ → ℕ → Type 0
@@ -36,15 +40,20 @@ pub record AmplitudesAreRoots : Type 0 where
   pub wholes : (i : ℕ) → i < 20 → IsRoot 20 (10 ^ (15 * 20 + i)) (slice_index whole_amplitudes i)
   pub tenths : (j : ℕ) → j < 10 → IsRoot 200 (10 ^ (15 * 200 + j)) (slice_index tenth_amplitudes j)
 
--- The amplitude of so many tenths of a decibel under 200 is at most 10^15 times 10^(r/200), and falls short of it by less than 9.
+-- The amplitude of so many tenths of a decibel under 200 is at most 10^15 times 10^(r/200), and
+-- falls short of it by less than 9.
 abbrev pub RestsAreNear : Type 0
-RestsAreNear = (r : ℕ) → r < 200 → (rest_amplitude r ^ 200 ≤ 10 ^ (15 * 200 + r)) × (10 ^ (15 * 200 + r) < (rest_amplitude r + 9) ^ 200)
+RestsAreNear = (r : ℕ) → r < 200 → (rest_amplitude r ^ 200 ≤ 10 ^ (15 * 200 + r))
+    × (10 ^ (15 * 200 + r) < (rest_amplitude r + 9) ^ 200)
 
--- A level is told up to +96.3 decibels; from -66.1 decibels down the nearest fraction is 0/1, and above it is not.
+-- A level is told up to +96.3 decibels; from -66.1 decibels down the nearest fraction is 0/1, and
+-- above it is not.
 pub record LevelsInRange : Type 0 where
   pub told : (l : Level) → (amplitude l ≤ 65535 * unit) ↔ ((l.below ≡ true) ⊎ (l.tenths ≤ 963))
-  pub silent : (l : Level) → l.below ≡ true → 661 ≤ l.tenths → IsNearest 1000 (amplitude l) (record { num = 0; den = 1 })
-  pub heard : (l : Level) (f : Fraction) → (l.below ≡ true → l.tenths ≤ 660) → IsNearest 1000 (amplitude l) f → 1 ≤ f.num
+  pub silent : (l : Level) → l.below ≡ true → 661 ≤ l.tenths
+      → IsNearest 1000 (amplitude l) (record { num = 0; den = 1 })
+  pub heard : (l : Level) (f : Fraction) → (l.below ≡ true → l.tenths ≤ 660)
+      → IsNearest 1000 (amplitude l) f → 1 ≤ f.num
 
 -- Of two fractions that are the nearest each is the other.
 abbrev pub NearestIsOne : Type 0

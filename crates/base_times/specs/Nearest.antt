@@ -1,4 +1,5 @@
--- The fraction nearest to an amplitude, of those with a divisor up to 1000 and a number up to 65,535.
+-- The fraction nearest to an amplitude, of those with a divisor up to 1000 and a number up to
+-- 65,535.
 use Rattle.std.specs.Prelude.{ℕ, ◌*◌, ◌<◌, ◌≤◌}
 use Rattle.std.specs.Int.{abs_diff}
 use Rattle.base_times.specs.Decibels.{unit}
@@ -8,11 +9,14 @@ use Rattle.base_times.specs.declared.fraction.Fraction.{Fraction}
 abbrev pub off : ℕ → ℕ → ℕ → ℕ
 off amp num den = abs_diff (num * unit) (amp * den)
 
--- f is the fraction nearest to the amplitude of those with a divisor from 1 to the most: the one with the smallest divisor of those as near, and with it the greatest number
+-- f is the fraction nearest to the amplitude of those with a divisor from 1 to the most: the one
+-- with the smallest divisor of those as near, and with it the greatest number
 pub record IsNearest (most amp : ℕ) (f : Fraction) : Type 0 where
   pub den_from : 1 ≤ f.den
   pub den_to : f.den ≤ most
   pub num_to : f.num ≤ 65535
-  pub nearest : (num den : ℕ) → num ≤ 65535 → 1 ≤ den → den ≤ most → off amp f.num f.den * den ≤ off amp num den * f.den
-  pub smallest : (num den : ℕ) → num ≤ 65535 → 1 ≤ den → den < f.den → off amp f.num f.den * den < off amp num den * f.den
+  pub nearest : (num den : ℕ) → num ≤ 65535 → 1 ≤ den → den ≤ most → off amp f.num f.den * den
+      ≤ off amp num den * f.den
+  pub smallest : (num den : ℕ) → num ≤ 65535 → 1 ≤ den → den < f.den → off amp f.num f.den * den
+      < off amp num den * f.den
   pub greatest : (num : ℕ) → num ≤ 65535 → f.num < num → off amp f.num f.den < off amp num f.den

@@ -10,7 +10,8 @@ three_digits n = (48 + n / 100) ∷ two_digits (n % 100)
 
 -- `:MM:SS.mmm`, of milliseconds
 abbrev pub below_hours : ℕ → List ℕ
-below_hours ms = codes ":" ++ (two_digits (ms / 60000 % 60) ++ (codes ":" ++ (two_digits (ms / 1000 % 60) ++ (codes "." ++ three_digits (ms % 1000)))))
+below_hours ms = codes ":" ++ (two_digits (ms / 60000 % 60)
+    ++ (codes ":" ++ (two_digits (ms / 1000 % 60) ++ (codes "." ++ three_digits (ms % 1000)))))
 
 -- `H:MM:SS.mmm`, of milliseconds
 abbrev pub clock_text : ℕ → List ℕ

@@ -10,4 +10,5 @@ small_number text = number text >>= passing (λ n. nat_lt n (2 ^ 32))
 
 -- a time of fewer seconds than these, in at most 10^9 parts each
 abbrev pub IsUnder : ℕ → Time → Type 0
-IsUnder seconds t = (1 ≤ t.per_second) × (t.per_second ≤ 10 ^ 9) × (t.count < seconds * t.per_second)
+IsUnder seconds t = (1 ≤ t.per_second) × (t.per_second ≤ 10 ^ 9)
+    × (t.count < seconds * t.per_second)

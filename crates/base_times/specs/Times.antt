@@ -1,5 +1,6 @@
 -- How times are read (profile): `H:MM:SS`, `H:MM:SS.f`, `Ss` and `S.fs`, to the nearest frame.
-use Rattle.std.specs.Prelude.{ℕ, ◌+◌, ◌*◌, ◌/◌, ◌^◌, ◌==◌, nat_le, nat_lt, List, length, Option, Some, None, if◌then◌else◌}
+use Rattle.std.specs.Prelude.{ℕ, ◌+◌, ◌*◌, ◌/◌, ◌^◌, ◌==◌, nat_le, nat_lt, List, length, Option}
+use Rattle.std.specs.Prelude.{Some, None, if◌then◌else◌}
 use Rattle.base_text.specs.Cutting.{◌>>=◌, cut}
 use Rattle.base_times.specs.Words.{colon, point, letter_s, number, passing}
 use Rattle.base_times.specs.declared.time.Time.{Time}
@@ -22,9 +23,11 @@ sixty text = if length text == 2 then (number text >>= passing (λ n. nat_lt n 6
 
 -- what stands behind a point: one to nine digits, the first of them tenths of a second
 abbrev pub parts_of_second : List ℕ → Option Time
-parts_of_second text = if nat_le (length text) 9 then (number text >>= λ n. Some (record { count = n; per_second = 10 ^ length text })) else None
+parts_of_second text = if nat_le (length text) 9 then
+    (number text >>= λ n. Some (record { count = n; per_second = 10 ^ length text })) else None
 
--- whole seconds, and perhaps a point and parts of a second, of a text that is cut at its point; by what reads the whole seconds
+-- whole seconds, and perhaps a point and parts of a second, of a text that is cut at its point; by
+-- what reads the whole seconds
 abbrev pub seconds_at : (List ℕ → Option ℕ) → List ℕ → Option (List ℕ × List ℕ) → Option Time
 seconds_at whole text None = whole text >>= λ n. Some (whole_time n)
 seconds_at whole text (Some at) = do

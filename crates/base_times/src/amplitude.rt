@@ -2,7 +2,8 @@
 
 ghost use Rattle.std.specs.Prelude.{◌≡◌, ◌<◌, ◌≤◌, ◌^◌, ◌*◌, ◌/◌, nat_le, slice_index, IfSome};
 ghost use Rattle.base_times.specs.Words.{passing};
-ghost use Rattle.base_times.specs.Decibels.{unit, whole_amplitudes, tenth_amplitudes, rest_amplitude, amplitude, amplitude_of};
+ghost use Rattle.base_times.specs.Decibels.{unit, whole_amplitudes, tenth_amplitudes};
+ghost use Rattle.base_times.specs.Decibels.{rest_amplitude, amplitude, amplitude_of};
 
 use crate::level::{Level, level_of};
 

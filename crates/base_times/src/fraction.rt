@@ -29,7 +29,8 @@ fn nearest_with(amp: u128, den: u16) -> Fraction
     ensures den { result.den ≡ den }
     ensures num { result.num ≤ 65535 }
     ensures nearest { (num : ℕ) → num ≤ 65535 → off amp result.num den ≤ off amp num den }
-    ensures greatest { (num : ℕ) → num ≤ 65535 → result.num < num → off amp result.num den < off amp num den }
+    ensures greatest { (num : ℕ) → num ≤ 65535 → result.num < num → off amp result.num den
+        < off amp num den }
 {
     let num = (2 * (amp * u128::from(den)) + UNIT) / (2 * UNIT);
     Fraction {
@@ -68,13 +69,15 @@ fn nearest(amp: u128) -> Fraction
     best
 }
 
-/// The amplitude that a word tells in decibels, as the nearest fraction with a divisor from 1 to 1000 and a number up to 65,535: the one
-/// with the smallest divisor of those as near. A word is a sign or none, one to three digits, perhaps a point and one digit more, and
-/// `dB`; its amplitude is 10 to the power of a twentieth of it. None where it is no such word, or over +96.3 decibels. From -66.1 decibels
-/// down it is 0/1.
+/// The amplitude that a word tells in decibels, as the nearest fraction with a divisor from 1 to
+/// 1000 and a number up to 65,535: the one with the smallest divisor of those as near. A word is a
+/// sign or none, one to three digits, perhaps a point and one digit more, and `dB`; its amplitude
+/// is 10 to the power of a twentieth of it. None where it is no such word, or over +96.3 decibels.
+/// From -66.1 decibels down it is 0/1.
 pub fn fraction_of(word: &[u8]) -> Option<Fraction>
     ensures none { (result ≡ None) ↔ (amplitude_of word.now ≡ None) }
-    ensures found { IfSome result (λ f. MatchOption (amplitude_of word.now) ⊥ (λ amp. IsNearest 1000 amp f)) }
+    ensures found { IfSome result (λ f. MatchOption (amplitude_of word.now) ⊥
+        (λ amp. IsNearest 1000 amp f)) }
 {
     let amplitude = amplitude_of(word)?;
     Some(nearest(amplitude))

@@ -1,7 +1,9 @@
 //! What holds of times and levels: each law is the contract of a function that does nothing.
 
 ghost use Rattle.std.specs.Prelude.{◌≡◌, ◌↔◌, IsTrue};
-ghost use Rattle.base_times.specs.Laws.{PrintedIsRead, PrintedFrameIsRead, WholeMillisecondsStay, AmplitudesAreRoots, RestsAreNear, LevelsInRange, NearestIsOne};
+ghost use Rattle.base_times.specs.Laws.{PrintedIsRead, PrintedFrameIsRead, WholeMillisecondsStay};
+ghost use Rattle.base_times.specs.Laws.{AmplitudesAreRoots, RestsAreNear, LevelsInRange};
+ghost use Rattle.base_times.specs.Laws.{NearestIsOne};
 
 use crate::fraction::Fraction;
 
@@ -15,17 +17,20 @@ pub fn printed_frames()
     ensures { PrintedFrameIsRead }
 {}
 
-/// Where 1000 divides the rate, that frame is printed as the same text again, and a frame at a whole millisecond comes back as itself.
+/// Where 1000 divides the rate, that frame is printed as the same text again, and a frame at a
+/// whole millisecond comes back as itself.
 pub fn whole_milliseconds()
     ensures { WholeMillisecondsStay }
 {}
 
-/// The amplitudes of 0 to 19 decibels and of 0 to 9 tenths are 10^15 times the roots that they stand for, rounded down.
+/// The amplitudes of 0 to 19 decibels and of 0 to 9 tenths are 10^15 times the roots that they
+/// stand for, rounded down.
 pub fn amplitudes()
     ensures { AmplitudesAreRoots }
 {}
 
-/// The amplitude of a level from 0 to 19.9 decibels is 10^15 times 10 to the power of a twentieth of it, or less than 9 under that.
+/// The amplitude of a level from 0 to 19.9 decibels is 10^15 times 10 to the power of a twentieth
+/// of it, or less than 9 under that.
 pub fn rests()
     ensures { RestsAreNear }
 {}

@@ -2,7 +2,8 @@
 
 ghost use Rattle.std.specs.Prelude.{◌≡◌, ◌<◌, ◌≤◌, ◌^◌, length, IfSome};
 ghost use Rattle.std.specs.Option.{option_map};
-ghost use Rattle.base_times.specs.Decibels.{few_digits, tenths, level_by, signed_level, before_db, level};
+ghost use Rattle.base_times.specs.Decibels.{few_digits, tenths, level_by, signed_level, before_db};
+ghost use Rattle.base_times.specs.Decibels.{level};
 
 use crate::word::short_number_of;
 use base_text::cut;

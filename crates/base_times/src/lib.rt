@@ -25,8 +25,9 @@
 //! }
 //! ```
 //!
-//! `specs/Printing.antt` says how times are printed, `specs/Times.antt` what a word tells of one; `specs/Decibels.antt` has the amplitude
-//! that a word tells, and `specs/Nearest.antt` the fraction nearest to it.
+//! `specs/Printing.antt` says how times are printed, `specs/Times.antt` what a word tells of one;
+//! `specs/Decibels.antt` has the amplitude that a word tells, and `specs/Nearest.antt` the fraction
+//! nearest to it.
 #![tactic(auto)]
 
 mod amplitude;

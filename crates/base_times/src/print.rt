@@ -49,8 +49,8 @@ fn append_clock<A: Allocator>(text: &mut Vec<u8, A>, ms: u64) -> Result<(), Allo
     added
 }
 
-/// Writes how long so many frames last at a rate, as `H:MM:SS.mmm`: milliseconds, rounded down. Where memory is refused,
-/// `text` is as it was.
+/// Writes how long so many frames last at a rate, as `H:MM:SS.mmm`: milliseconds, rounded down.
+/// Where memory is refused, `text` is as it was.
 pub fn append_time<A: Allocator>(
     text: &mut Vec<u8, A>,
     rate: u32,

@@ -2,7 +2,8 @@
 
 ghost use Rattle.std.specs.Prelude.{◌≡◌, ◌≤◌, ◌<◌, ◌^◌, ◌*◌, IfSome};
 ghost use Rattle.std.specs.Option.{option_map};
-ghost use Rattle.base_times.specs.Times.{later, sixty, parts_of_second, seconds, clock, before_s, form, frame, read_time};
+ghost use Rattle.base_times.specs.Times.{later, sixty, parts_of_second, seconds, clock, before_s};
+ghost use Rattle.base_times.specs.Times.{form, frame, read_time};
 ghost use Rattle.base_times.specs.Steps.{small_number, IsUnder};
 
 use crate::word::{short_number_of, small_number_of};
@@ -146,9 +147,10 @@ fn frame_of(rate: u32, time: Time) -> Option<u32>
     }
 }
 
-/// The frame that a word comes to at a rate: `H:MM:SS` or `H:MM:SS.f`, with one digit or more, two, two and one to nine, the minutes and
-/// the seconds under 60; or `Ss` or `S.fs`, with one digit or more and one to nine. It is the nearest frame, the later one of two as near.
-/// None where the word is no time, or the frame is over 4,294,967,295.
+/// The frame that a word comes to at a rate: `H:MM:SS` or `H:MM:SS.f`, with one digit or more, two,
+/// two and one to nine, the minutes and the seconds under 60; or `Ss` or `S.fs`, with one digit or
+/// more and one to nine. It is the nearest frame, the later one of two as near. None where the word
+/// is no time, or the frame is over 4,294,967,295.
 #[tactic(auto, using(crate::proofs::Capping::read_so))]
 pub fn frames_of(rate: u32, word: &[u8]) -> Option<u32>
     requires { 1 ≤ rate }

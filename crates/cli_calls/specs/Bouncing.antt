@@ -24,14 +24,16 @@ use Rattle.cli_calls.specs.Sources.{GaveWaves, GaveKept, HasSourceCause}
 
 -- the programme of a session over recordings
 abbrev pub programme : Session → List (List ℕ) → Layout → Programme
-programme session texts layout = record { tracks = session.tracks; sources = sources_of texts; layout = layout }
+programme session texts layout = record { tracks = session.tracks; sources = sources_of texts;
+    layout = layout }
 
 -- the session of the union of the logs' sets
 abbrev pub session_of_logs : List LogMap → Session
 session_of_logs logs = session_of (operations (union_all logs))
 
 -- A file is written where the programme can be mixed and the file is not too long.
-pub record CanBounce (session : Session) (texts : List (List ℕ)) (layout : Layout) (head : HeadText) : Type 0 where
+pub record CanBounce (session : Session) (texts : List (List ℕ)) (layout : Layout) (head : HeadText)
+    : Type 0 where
   pub mixable : IsMixable (programme session texts layout)
   pub fits : Fits (programme session texts layout) session.markers head
 
@@ -44,11 +46,13 @@ abbrev pub IsMixRefusal : Session → List (List ℕ) → Layout → HeadText �
 IsMixRefusal session texts layout head fault =
     (fault ≢ mix.Memory)
     × (IsMixFault (programme session texts layout) fault
-    ⊎ (IsMixable (programme session texts layout) × (fault ≡ mix.TooLong) × (2 ^ 32 ≤ length (riff (programme session texts layout) session.markers head))))
+    ⊎ (IsMixable (programme session texts layout) × (fault ≡ mix.TooLong)
+        × (2 ^ 32 ≤ length (riff (programme session texts layout) session.markers head))))
 
 -- `render`: what is made of a session and recordings, the file or why there is none
 abbrev pub Renders : Layout → HeadText → Session → List (List ℕ) → Result (List ℕ) CliFault → Type 0
-Renders layout head session texts (Ok bytes) = CanBounce session texts layout head × (bytes ≡ session_file session texts layout head)
+Renders layout head session texts (Ok bytes) = CanBounce session texts layout head
+    × (bytes ≡ session_file session texts layout head)
 Renders layout head session texts (Err (Mix fault)) = IsMixRefusal session texts layout head fault
 Renders layout head session texts (Err _) = ⊥
 
@@ -73,21 +77,26 @@ RendersLogs layout head given = Renders layout head (session_of_logs given.logs)
 
 module _ {R : Type 0} (remaining : R → Option (List ℕ)) where
   abbrev pub GaveLogsAndWaves : RenderInputs R → LogsAndWaves → Type 0
-  GaveLogsAndWaves s given = GaveLogs remaining s.logs given.logs × (AllAgree given.logs × GaveWaves remaining s.sources given.texts)
+  GaveLogsAndWaves s given = GaveLogs remaining s.logs given.logs
+      × (AllAgree given.logs × GaveWaves remaining s.sources given.texts)
 
-  -- The logs were not read, or do not go together, and no recording was asked for; or they were and do, and a recording was not read, which is
-  -- counted behind the logs.
+  -- The logs were not read, or do not go together, and no recording was asked for; or they were and
+  -- do, and a recording was not read, which is counted behind the logs.
   abbrev pub RenderCause : RenderInputs R → RenderInputs R → CliFault → Type 0
   RenderCause before after fault =
       (UnionFails remaining before.logs after.logs fault × (after.sources ≡ before.sources))
       ⊎ ((logs : List LogMap)
-      × (GaveLogs remaining before.logs logs × (AreRead remaining after.logs × (AllAgree logs × HasSourceCause remaining (length before.logs) 0 before.sources after.sources fault))))
+      × (GaveLogs remaining before.logs logs × (AreRead remaining after.logs
+          × (AllAgree logs × HasSourceCause remaining (length before.logs) 0 before.sources
+          after.sources fault))))
 
   -- all are at their ends
   abbrev pub AreInputsRead : RenderInputs R → Type 0
   AreInputsRead s = AreRead remaining s.logs × AreRead remaining s.sources
 
-  -- Working words: the logs gave a union, of which this is the session, and of the wave files what its audible clips play is kept.
+  -- Working words: the logs gave a union, of which this is the session, and of the wave files what
+  -- its audible clips play is kept.
   abbrev pub GaveMaterial : {A : Type 0} → RenderInputs R → Material A → Type 0
   GaveMaterial s m =
-      (all : LogMap) × (GaveUnion remaining s.logs all × ((m.session ≡ session_of (operations all)) × GaveKept remaining (is_audible m.session.tracks) s.sources m.kept.items))
+      (all : LogMap) × (GaveUnion remaining s.logs all × ((m.session ≡ session_of (operations all))
+          × GaveKept remaining (is_audible m.session.tracks) s.sources m.kept.items))

@@ -1,4 +1,5 @@
--- What is told of a log and recordings before they are rendered: what sounds otherwise than one may think, or why there would be no file.
+-- What is told of a log and recordings before they are rendered: what sounds otherwise than one may
+-- think, or why there would be no file.
 use Rattle.std.specs.Prelude.{◌≡◌, ℕ, List, [], ◌∷◌, Option, Result, Ok, Err, ◌⊎◌}
 use Rattle.base_io.specs.Latch.{Latch}
 use Rattle.mt_op.specs.OpValue.{Op}
@@ -20,12 +21,17 @@ use Rattle.cli_calls.specs.Sources.{GaveWaves, GaveKept, HasSourceCause}
 
 -- the text on a session of operations over recordings, in a format, in a form of lines
 abbrev pub warnings : TextOptions → Session → List Op → List (List ℕ) → Layout → List ℕ
-warnings form session ops texts layout = in_form form (warnings_text (programme session texts layout) session.markers ops)
+warnings form session ops texts layout = in_form form
+    (warnings_text (programme session texts layout) session.markers ops)
 
--- what is made of a session of operations and recordings: the text, where there would be a file, or why there would be none
-abbrev pub ChecksSession : TextOptions → Layout → HeadText → Session → List Op → List (List ℕ) → Result (List ℕ) CliFault → Type 0
-ChecksSession form layout head session ops texts (Ok bytes) = CanBounce session texts layout head × (bytes ≡ warnings form session ops texts layout)
-ChecksSession form layout head session ops texts (Err (Mix fault)) = IsMixRefusal session texts layout head fault
+-- what is made of a session of operations and recordings: the text, where there would be a file, or
+-- why there would be none
+abbrev pub ChecksSession : TextOptions → Layout → HeadText → Session → List Op → List (List ℕ)
+    → Result (List ℕ) CliFault → Type 0
+ChecksSession form layout head session ops texts (Ok bytes) = CanBounce session texts layout head
+    × (bytes ≡ warnings form session ops texts layout)
+ChecksSession form layout head session ops texts (Err (Mix fault)) = IsMixRefusal session texts
+    layout head fault
 ChecksSession form layout head session ops texts (Err _) = ⊥
 
 -- what readers gave: a log, and wave files
@@ -34,26 +40,35 @@ pub record LogAndWaves : Type 0 where
   pub texts : List (List ℕ)
 
 -- `check`: what is made of these
-abbrev pub Checks : TextOptions → Layout → HeadText → LogAndWaves → Result (List ℕ) CliFault → Type 0
-Checks form layout head given = ChecksSession form layout head (session_of (operations given.log)) (operations given.log) given.texts
+abbrev pub Checks : TextOptions → Layout → HeadText → LogAndWaves → Result (List ℕ) CliFault
+    → Type 0
+Checks form layout head given = ChecksSession form layout head (session_of (operations given.log))
+    (operations given.log) given.texts
 
 module _ {R : Type 0} (remaining : R → Option (List ℕ)) where
   -- the first reader gave a log, and each of the others a wave file
   abbrev pub GaveLogAndWaves : List (Latch R) → LogAndWaves → Type 0
-  GaveLogAndWaves (log ∷ files) given = GaveLog remaining log given.log × GaveWaves remaining files given.texts
+  GaveLogAndWaves (log ∷ files) given = GaveLog remaining log given.log
+      × GaveWaves remaining files given.texts
   GaveLogAndWaves [] given = ⊥
 
   -- the first gave no log, and no other was asked; or it did, and another gave no wave file
   abbrev pub LogAndWavesCause : List (Latch R) → List (Latch R) → CliFault → Type 0
   LogAndWavesCause (log ∷ files) (log' ∷ files') fault =
       (IsCause remaining 0 log log' fault × (files' ≡ files))
-      ⊎ ((m : LogMap) × (GaveLog remaining log m × (IsRead remaining log' × HasSourceCause remaining 1 0 files files' fault)))
+      ⊎ ((m : LogMap) × (GaveLog remaining log m × (IsRead remaining log'
+          × HasSourceCause remaining 1 0 files files' fault)))
   LogAndWavesCause _ _ fault = ⊥
 
-  -- Working words: the first gave a log, of which this is the session, and of the wave files of the others what its audible clips play is kept.
+  -- Working words: the first gave a log, of which this is the session, and of the wave files of the
+  -- others what its audible clips play is kept.
   abbrev pub GaveProgramme : {A : Type 0} → List (Latch R) → Programme A → Type 0
-  GaveProgramme (log ∷ files) p = GaveLog remaining log p.log × ((p.session ≡ session_of (operations p.log)) × GaveKept remaining (is_audible p.session.tracks) files p.kept.items)
+  GaveProgramme (log ∷ files) p = GaveLog remaining log p.log
+      × ((p.session ≡ session_of (operations p.log)) × GaveKept remaining
+      (is_audible p.session.tracks) files p.kept.items)
   GaveProgramme [] p = ⊥
 
-abbrev pub ChecksProgramme : {A : Type 0} → TextOptions → Layout → HeadText → Programme A → Result (List ℕ) CliFault → Type 0
-ChecksProgramme form layout head p = ChecksSession form layout head p.session (operations p.log) p.kept.items
+abbrev pub ChecksProgramme : {A : Type 0} → TextOptions → Layout → HeadText → Programme A
+    → Result (List ℕ) CliFault → Type 0
+ChecksProgramme form layout head p = ChecksSession form layout head p.session (operations p.log)
+    p.kept.items

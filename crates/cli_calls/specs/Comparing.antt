@@ -1,4 +1,5 @@
--- What `diff` answers of two inputs (profile): which log each of them is, which text is made of both, and why it is refused.
+-- What `diff` answers of two inputs (profile): which log each of them is, which text is made of
+-- both, and why it is refused.
 use Rattle.std.specs.Prelude.{◌≡◌, ◌≢◌, ℕ, Bool, true, false, ◌==◌, List, [], ◌∷◌, Option, ◌⊎◌}
 use Rattle.std.specs.FinMap as map
 use Rattle.base_io.specs.Latch.{Latch}
@@ -28,12 +29,14 @@ diff_by form.View left right = view_diff_text left right
 
 -- ---- the log of an input
 
--- Whether bytes begin as what `lack` writes does, with the length of a frame: its first byte is 0, and that of a log's text is not.
+-- Whether bytes begin as what `lack` writes does, with the length of a frame: its first byte is 0,
+-- and that of a log's text is not.
 abbrev pub begins_as_frame : List ℕ → Bool
 begins_as_frame [] = false
 begins_as_frame (b ∷ bytes) = b == 0
 
--- the log of bytes: of what `lack` wrote all its operations, up to Bye; of others that of which they are the text
+-- the log of bytes: of what `lack` wrote all its operations, up to Bye; of others that of which
+-- they are the text
 abbrev pub IsLogAs : Bool → List ℕ → LogMap → Type 0
 IsLogAs true bytes m = Taken map.empty bytes m
 IsLogAs false bytes m = (bytes ≡ text_of m) × IsLog m
@@ -45,7 +48,8 @@ IsLogOf bytes m = IsLogAs (begins_as_frame bytes) bytes m
 abbrev pub IsNoLogAs : Bool → ℕ → List ℕ → CliFault → Type 0
 IsNoLogAs true index bytes fault = NotTaken map.empty bytes fault
 IsNoLogAs false index bytes Memory = Unit {0}
-IsNoLogAs false index bytes (Log place fault) = (place ≡ index) × ((fault ≢ log.Memory) × LogFails fault (log_at bytes))
+IsNoLogAs false index bytes (Log place fault) = (place ≡ index)
+    × ((fault ≢ log.Memory) × LogFails fault (log_at bytes))
 IsNoLogAs false index bytes _ = ⊥
 
 abbrev pub IsNoLogOf : ℕ → List ℕ → CliFault → Type 0
@@ -58,21 +62,26 @@ module _ {R : Type 0} (remaining : R → Option (List ℕ)) where
   abbrev pub GaveLogOf : Latch R → LogMap → Type 0
   GaveLogOf latch m = (bytes : List ℕ) × (Gave remaining latch bytes × IsLogOf bytes m)
 
-  -- why the input of an index gave no log: memory ran out, its latch has failed, or all its bytes are none
+  -- why the input of an index gave no log: memory ran out, its latch has failed, or all its bytes
+  -- are none
   abbrev pub GaveNoLog : ℕ → Latch R → Latch R → CliFault → Type 0
   GaveNoLog index old new Memory = IsRest remaining old new
-  GaveNoLog index old new (Read place) = (place ≡ index) × ((new.failed ≡ true) × IsRest remaining old new)
-  GaveNoLog index old new fault = IsRead remaining new × ((bytes : List ℕ) × (Gave remaining old bytes × IsNoLogOf index bytes fault))
+  GaveNoLog index old new (Read place) = (place ≡ index)
+      × ((new.failed ≡ true) × IsRest remaining old new)
+  GaveNoLog index old new fault = IsRead remaining new
+      × ((bytes : List ℕ) × (Gave remaining old bytes × IsNoLogOf index bytes fault))
 
   -- both inputs gave logs
   abbrev pub GaveTwoLogs : {Z : Type 0} → List (Latch R) → TwoLogs Z → Type 0
   GaveTwoLogs (left ∷ (right ∷ [])) logs = GaveLogOf left logs.left × GaveLogOf right logs.right
   GaveTwoLogs _ logs = ⊥
 
-  -- the left input gave none, and the right one was not asked; or it did, and the right one gave none
+  -- the left input gave none, and the right one was not asked; or it did, and the right one gave
+  -- none
   abbrev pub TwoLogsCause : List (Latch R) → List (Latch R) → CliFault → Type 0
   TwoLogsCause (left ∷ (right ∷ [])) (left' ∷ (right' ∷ [])) fault =
-      (GaveNoLog 0 left left' fault × (right' ≡ right)) ⊎ ((m : LogMap) × (GaveLogOf left m × (IsRead remaining left' × GaveNoLog 1 right right' fault)))
+      (GaveNoLog 0 left left' fault × (right' ≡ right)) ⊎ ((m : LogMap)
+          × (GaveLogOf left m × (IsRead remaining left' × GaveNoLog 1 right right' fault)))
   TwoLogsCause _ _ fault = ⊥
 
 -- ---- what is made

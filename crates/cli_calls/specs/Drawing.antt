@@ -16,14 +16,16 @@ abbrev pub columns_of : Drawing → ℕ
 columns_of (Text width lengths) = width
 columns_of Svg = 1
 
--- a session as text, in so many columns, or as a picture with the peaks of recordings, its times at a rate
+-- a session as text, in so many columns, or as a picture with the peaks of recordings, its times at
+-- a rate
 abbrev pub drawing_text : Drawing → ℕ → Sources → Session → List ℕ
 drawing_text (Text width lengths) rate sources session = timeline_text width lengths rate session
 drawing_text Svg rate sources session = svg_text rate sources session
 
 -- a log's session so
 abbrev pub log_drawing : {C : Type 0} → SessionDrawing C → LogMap → List ℕ
-log_drawing how log = drawing_text how.drawing how.rate how.recordings.now (session_of (operations log))
+log_drawing how log = drawing_text how.drawing how.rate how.recordings.now
+    (session_of (operations log))
 
 -- the same of the session of the union of the logs' sets
 abbrev pub drawn_text : {C : Type 0} → SessionDrawing C → List LogMap → List ℕ

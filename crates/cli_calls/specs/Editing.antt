@@ -1,5 +1,6 @@
 -- What `edit` makes of a log and a script, and prints, and why it is refused.
-use Rattle.std.specs.Prelude.{◌≡◌, ◌≢◌, ℕ, max, List, [], ◌∷◌, ◌++◌, length, codes, Option, Some, None, Result, Ok, Err}
+use Rattle.std.specs.Prelude.{◌≡◌, ◌≢◌, ℕ, max, List, [], ◌∷◌, ◌++◌, length, codes, Option, Some}
+use Rattle.std.specs.Prelude.{None, Result, Ok, Err}
 use Rattle.std.specs.Fmt.{decimal}
 use Rattle.mt_stamp.specs.declared.name.Replica.{Replica}
 use Rattle.mt_op.specs.OpValue.{Op}
@@ -17,7 +18,8 @@ use Rattle.cli_calls.specs.Reading.{text_of}
 abbrev pub number_line : List ℕ → ℕ → List ℕ
 number_line front number = front ++ (decimal number ++ newline ∷ [])
 
--- The script that a text asks for: where it may say times and decibels, what these come to stands in their places, at so many frames a second, of which 0 counts as 1.
+-- The script that a text asks for: where it may say times and decibels, what these come to stands
+-- in their places, at so many frames a second, of which 0 counts as 1.
 abbrev pub asked : Option ℕ → List ℕ → List ℕ
 asked None text = text
 asked (Some rate) text = plain_script (max rate 1) text
@@ -26,13 +28,17 @@ asked (Some rate) text = plain_script (max rate 1) text
 abbrev pub ops_line : ℕ → List ℕ
 ops_line count = number_line (codes "ops ") count
 
--- the log with the operations of a script, and the line of how many they are; or why the script is refused
+-- the log with the operations of a script, and the line of how many they are; or why the script is
+-- refused
 abbrev pub EditMakes : Replica → LogMap → List ℕ → Result (List ℕ × List ℕ) CliFault → Type 0
 EditMakes name log text (Ok made) =
-    (ops : List Op) × ((scripted log name text ≡ Ok ops) × ((made.0 ≡ text_of (with_ops log ops)) × (made.1 ≡ ops_line (length ops))))
-EditMakes name log text (Err (Script fault)) = (fault ≢ script.Memory) × (scripted log name text ≡ Err fault)
+    (ops : List Op) × ((scripted log name text ≡ Ok ops)
+        × ((made.0 ≡ text_of (with_ops log ops)) × (made.1 ≡ ops_line (length ops))))
+EditMakes name log text (Err (Script fault)) = (fault ≢ script.Memory)
+    × (scripted log name text ≡ Err fault)
 EditMakes name log text (Err _) = ⊥
 
 -- `edit`: of a log and the text of a script
-abbrev pub Edits : {Z : Type 0} → Replica → Option ℕ → LogAndBytes Z → Result (List ℕ × List ℕ) CliFault → Type 0
+abbrev pub Edits : {Z : Type 0} → Replica → Option ℕ → LogAndBytes Z
+    → Result (List ℕ × List ℕ) CliFault → Type 0
 Edits name rate both = EditMakes name both.log (asked rate both.bytes.items)

@@ -21,9 +21,13 @@ use Rattle.mt_sync.specs.declared.fault.SyncFault.TheVariants as sync
 use Rattle.cli_calls.specs.declared.fault.LayFault.{LayFault}
 use Rattle.cli_calls.specs.declared.fault.LayFault.TheVariants as lay
 use Rattle.cli_calls.specs.declared.fault.CliFault.{CliFault}
-use Rattle.cli_calls.specs.declared.fault.CliFault.TheVariants.{Memory, Read, Log, Merge, Source, Mix, Lay, Write, Part, Print, Name, Digest, NoSuchItem, Head, Format, Script, Message, Sync, Net}
+use Rattle.cli_calls.specs.declared.fault.CliFault.TheVariants.{Memory, Read, Log, Merge, Source}
+use Rattle.cli_calls.specs.declared.fault.CliFault.TheVariants.{Mix, Lay, Write, Part, Print, Name}
+use Rattle.cli_calls.specs.declared.fault.CliFault.TheVariants.{Digest, NoSuchItem, Head, Format}
+use Rattle.cli_calls.specs.declared.fault.CliFault.TheVariants.{Script, Message, Sync, Net}
 
--- A recording that is not laid is refused as a clip without a frame, a recording of another rate, or a programme that is too long.
+-- A recording that is not laid is refused as a clip without a frame, a recording of another rate,
+-- or a programme that is too long.
 abbrev pub lay_number : LayFault → ℕ
 lay_number lay.ZeroLength = 6
 lay_number lay.RateDiffers = 34
@@ -57,7 +61,8 @@ file_fault bounce.Memory = Memory
 file_fault bounce.TooLong = Mix mix.TooLong
 file_fault bounce.Write = Write
 
--- what a refusal of a script, of a message or of a conversation is told as: want of memory is one refusal, wherever it comes
+-- what a refusal of a script, of a message or of a conversation is told as: want of memory is one
+-- refusal, wherever it comes
 abbrev pub script_fault : ScriptFault → CliFault
 script_fault script.Memory = Memory
 script_fault fault = Script fault

@@ -1,5 +1,7 @@
--- Which items of a log's session are found by a title or by a recording, and the text that names them (profile).
-use Rattle.std.specs.Prelude.{◌≡◌, ℕ, Bool, ◌==◌, ◌&&◌, not, List, [], ◌∷◌, ◌++◌, map, filter, length, Result, Ok, Err, if◌then◌else◌}
+-- Which items of a log's session are found by a title or by a recording, and the text that names
+-- them (profile).
+use Rattle.std.specs.Prelude.{◌≡◌, ℕ, Bool, ◌==◌, ◌&&◌, not, List, [], ◌∷◌, ◌++◌, map, filter}
+use Rattle.std.specs.Prelude.{length, Result, Ok, Err, if◌then◌else◌}
 use Rattle.std.specs.List.{flat_map}
 use Rattle.std.specs.Str.{bytes_eq}
 use Rattle.mt_stamp.specs.StampOrder.{Stamp}
@@ -27,7 +29,8 @@ markers_titled title markers = map (λ m. m.marker) (filter (λ m. bytes_eq m.ti
 abbrev pub clips_playing : Digest → List Clip → List Stamp
 clips_playing source clips = map (λ c. c.clip) (playing source clips)
 
--- the stamps of the items of a session that have what is looked for, in the session's order; of clips those of all tracks, in order
+-- the stamps of the items of a session that have what is looked for, in the session's order; of
+-- clips those of all tracks, in order
 abbrev pub found : FindQuery → Session → List Stamp
 found (wanted.Track title) c = tracks_titled title.now c.tracks
 found (wanted.Marker title) c = markers_titled title.now c.markers
@@ -37,9 +40,11 @@ found (wanted.Clip source) c = clips_playing source (all_clips c.tracks)
 abbrev pub stamp_lines : List Stamp → List ℕ
 stamp_lines stamps = flat_map (λ s. stamp_text s ++ newline ∷ []) stamps
 
--- what is answered where these were found: their lines, or, where it has to be one, a refusal that tells how many other than one they are
+-- what is answered where these were found: their lines, or, where it has to be one, a refusal that
+-- tells how many other than one they are
 abbrev pub answer : Bool → List Stamp → Result (List ℕ) CliFault
-answer one stamps = if one && not (length stamps == 1) then Err (NoSuchItem (length stamps)) else Ok (stamp_lines stamps)
+answer one stamps = if one && not (length stamps == 1) then Err (NoSuchItem (length stamps)) else Ok
+    (stamp_lines stamps)
 
 -- `find`: what is answered of the items of the log's session
 abbrev pub Finding : Bool → FindQuery → LogMap → Result (List ℕ) CliFault → Type 0

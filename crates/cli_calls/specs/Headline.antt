@@ -24,13 +24,15 @@ abbrev pub IsIn : List LogMap → Op → Type 0
 IsIn [] o = ⊥
 IsIn (log ∷ logs) o = Has log o ⊎ IsIn logs o
 
--- These logs, each the set of its operations, have together the operations that those have, however they are spread and repeated.
+-- These logs, each the set of its operations, have together the operations that those have, however
+-- they are spread and repeated.
 pub record HaveSame (logs others : List LogMap) : Type 0 where
   pub sets : AllByRecursion IsSet logs
   pub other_sets : AllByRecursion IsSet others
   pub same : (o : Op) → IsIn logs o ↔ IsIn others o
 
--- Under the digest of each audible clip of a session the first of these recordings and the first of those are the same bytes, or neither is there.
+-- Under the digest of each audible clip of a session the first of these recordings and the first of
+-- those are the same bytes, or neither is there.
 abbrev pub HearAlike : Session → List (List ℕ) → List (List ℕ) → Type 0
 HearAlike session texts others = FindAlike session.tracks (sources_of texts) (sources_of others)
 
@@ -44,13 +46,18 @@ pub record TellAlike (logs others : List LogMap) : Type 0 where
   pub list : list_text logs ≡ list_text others
   pub merged : text_of (union_all logs) ≡ text_of (union_all others)
 
--- The files of two sessions are one, and both are written or neither: then both are refused, for the same and for nothing else.
-pub record RenderAlike (session other : Session) (texts others : List (List ℕ)) (layout : Layout) (head : HeadText) : Type 0 where
+-- The files of two sessions are one, and both are written or neither: then both are refused, for
+-- the same and for nothing else.
+pub record RenderAlike (session other : Session) (texts others : List (List ℕ)) (layout : Layout)
+    (head : HeadText) : Type 0 where
   pub file : session_file session texts layout head ≡ session_file other others layout head
   pub written : CanBounce session texts layout head ↔ CanBounce other others layout head
-  pub refused : (fault : MixFault) → IsMixRefusal session texts layout head fault ↔ IsMixRefusal other others layout head fault
-  pub one : (fault answer : MixFault) → IsMixRefusal session texts layout head fault → IsMixRefusal other others layout head answer → fault ≡ answer
-  pub never_both : CanBounce session texts layout head → (fault : MixFault) → IsMixRefusal other others layout head fault → ⊥
+  pub refused : (fault : MixFault) → IsMixRefusal session texts layout head fault
+      ↔ IsMixRefusal other others layout head fault
+  pub one : (fault answer : MixFault) → IsMixRefusal session texts layout head fault
+      → IsMixRefusal other others layout head answer → fault ≡ answer
+  pub never_both : CanBounce session texts layout head → (fault : MixFault)
+      → IsMixRefusal other others layout head fault → ⊥
 
 -- ---- the headline
 
@@ -60,23 +67,30 @@ SameAgree = (logs others : List LogMap) → HaveSame logs others → AllAgree lo
 
 -- Where they agree, the same is told of both.
 abbrev pub SameIsTold : Type 0
-SameIsTold = (logs others : List LogMap) → HaveSame logs others → AllAgree logs → TellAlike logs others
+SameIsTold = (logs others : List LogMap) → HaveSame logs others → AllAgree logs
+    → TellAlike logs others
 
--- And one file is written of both, over recordings that are the same where they count, in one format and with one head.
+-- And one file is written of both, over recordings that are the same where they count, in one
+-- format and with one head.
 abbrev pub SameIsRendered : Type 0
 SameIsRendered =
-    (logs others : List LogMap) (texts other_texts : List (List ℕ)) (layout : Layout) (head : HeadText) → HaveSame logs others → AllAgree logs
-    → HearAlike (session_of_logs logs) texts other_texts → RenderAlike (session_of_logs logs) (session_of_logs others) texts other_texts layout head
+    (logs others : List LogMap) (texts other_texts : List (List ℕ)) (layout : Layout)
+        (head : HeadText) → HaveSame logs others → AllAgree logs
+    → HearAlike (session_of_logs logs) texts other_texts
+        → RenderAlike (session_of_logs logs) (session_of_logs others) texts other_texts layout head
 
 -- Editors whose logs have the same operations lend one session.
 abbrev pub SameIsShown : Type 0
 SameIsShown =
-    (a b : Editor) (log other : LogMap) → a.log ≡ Some log → b.log ≡ Some other → HaveSame (log ∷ []) (other ∷ []) → session_in a ≡ session_in b
+    (a b : Editor) (log other : LogMap) → a.log ≡ Some log → b.log ≡ Some other
+        → HaveSame (log ∷ []) (other ∷ []) → session_in a ≡ session_in b
 
--- One log agrees with itself alone, and is its own union: so what is told of it is told of an editor that has it.
+-- One log agrees with itself alone, and is its own union: so what is told of it is told of an
+-- editor that has it.
 abbrev pub OneIsItsUnion : Type 0
 OneIsItsUnion = (log : LogMap) → AllAgree (log ∷ []) × (union_all (log ∷ []) ≡ log)
 
 -- What is merged of logs that agree has the operations of all of them, and can stand for them.
 abbrev pub MergedIsSame : Type 0
-MergedIsSame = (logs : List LogMap) → AllByRecursion IsSet logs → AllAgree logs → HaveSame logs (union_all logs ∷ [])
+MergedIsSame = (logs : List LogMap) → AllByRecursion IsSet logs → AllAgree logs
+    → HaveSame logs (union_all logs ∷ [])

@@ -1,5 +1,6 @@
 -- What a wave file says of itself, as text (profile).
-use Rattle.std.specs.Prelude.{◌≡◌, ℕ, Bool, ◌==◌, ◌&&◌, not, nat_le, if◌then◌else◌, List, [], ◌∷◌, ◌++◌, codes, Option, Some, None, Result, Ok, Err}
+use Rattle.std.specs.Prelude.{◌≡◌, ℕ, Bool, ◌==◌, ◌&&◌, not, nat_le, if◌then◌else◌, List, [], ◌∷◌}
+use Rattle.std.specs.Prelude.{◌++◌, codes, Option, Some, None, Result, Ok, Err}
 use Rattle.std.specs.Fmt.{decimal}
 use Rattle.std.specs.List.{flat_map}
 use Rattle.hex.specs.Hex.{encode_lower}
@@ -19,8 +20,8 @@ use Rattle.cli_calls.specs.declared.file_info.InfoUnit.{InfoUnit}
 use Rattle.cli_calls.specs.declared.file_info.InfoUnit.TheVariants.{Frames, OwnRate, Rate}
 use Rattle.cli_calls.specs.Form.{in_form}
 
--- A byte of a file's text: a printing character of ASCII stands for itself, but the backslash. Every other byte
--- is `\x` and its two hex digits in lower case.
+-- A byte of a file's text: a printing character of ASCII stands for itself, but the backslash.
+-- Every other byte is `\x` and its two hex digits in lower case.
 abbrev pub is_plain : ℕ → Bool
 is_plain byte = nat_le 32 byte && nat_le byte 126 && not (byte == 92)
 
@@ -59,7 +60,8 @@ label_text (Some text) = codes " label " ++ shown text
 
 -- a cue's line
 abbrev pub cue_line : CueText → List ℕ
-cue_line c = codes "cue " ++ (decimal c.name ++ (codes " at " ++ (decimal c.at ++ (length_text c.length ++ (label_text c.label ++ (newline ∷ []))))))
+cue_line c = codes "cue " ++ (decimal c.name ++ (codes " at "
+    ++ (decimal c.at ++ (length_text c.length ++ (label_text c.label ++ (newline ∷ []))))))
 
 -- the lines of the sound: frames a second, channels, bits of a sample, and frames
 abbrev pub sound_lines : List ℕ → ℕ → List ℕ
@@ -69,7 +71,8 @@ sound_lines bytes frames =
     ++ (line (codes "bits") (decimal (bits_of bytes))
     ++ line (codes "frames") (decimal frames)))
 
--- what is read off the bytes of a wave file, with these digits of its digest and so many frames: the sound, the broadcast extension, and the cues in order
+-- what is read off the bytes of a wave file, with these digits of its digest and so many frames:
+-- the sound, the broadcast extension, and the cues in order
 abbrev pub told_text : List ℕ → List ℕ → ℕ → List ℕ
 told_text digits bytes frames =
     line (codes "digest") digits
@@ -113,13 +116,18 @@ InformsBy form bytes = InformsIn (lines_of form bytes) bytes
 abbrev pub WaveHeaderInforms : {A : Type 0} → WaveHeader A → Result (List ℕ) CliFault → Type 0
 WaveHeaderInforms o made = (bytes : List ℕ) → IsWaveHeader bytes o → Informs bytes made
 
-abbrev pub WaveHeaderInformsIn : {A : Type 0} → TextOptions → WaveHeader A → Result (List ℕ) CliFault → Type 0
-WaveHeaderInformsIn lines o made = (bytes : List ℕ) → IsWaveHeader bytes o → InformsIn lines bytes made
+abbrev pub WaveHeaderInformsIn : {A : Type 0} → TextOptions → WaveHeader A
+    → Result (List ℕ) CliFault → Type 0
+WaveHeaderInformsIn lines o made = (bytes : List ℕ) → IsWaveHeader bytes o
+    → InformsIn lines bytes made
 
-abbrev pub WaveHeaderInformsBy : {A : Type 0} → InfoForm → WaveHeader A → Result (List ℕ) CliFault → Type 0
-WaveHeaderInformsBy form o made = (bytes : List ℕ) → IsWaveHeader bytes o → InformsBy form bytes made
+abbrev pub WaveHeaderInformsBy : {A : Type 0} → InfoForm → WaveHeader A → Result (List ℕ) CliFault
+    → Type 0
+WaveHeaderInformsBy form o made = (bytes : List ℕ) → IsWaveHeader bytes o
+    → InformsBy form bytes made
 
 -- one reader gave the file of this outline
-abbrev pub GaveWaveHeader : {R A : Type 0} → (R → Option (List ℕ)) → List (Latch R) → WaveHeader A → Type 0
+abbrev pub GaveWaveHeader : {R A : Type 0} → (R → Option (List ℕ)) → List (Latch R) → WaveHeader A
+    → Type 0
 GaveWaveHeader remaining (input ∷ []) o = Gives (remaining input.inner) o
 GaveWaveHeader remaining _ o = ⊥

@@ -15,12 +15,16 @@ AllFail logs _ = ⊥
 
 -- the readers gave logs that agree, of which this is the union
 abbrev pub GaveUnion : {R : Type 0} → (R → Option (List ℕ)) → List (Latch R) → LogMap → Type 0
-GaveUnion remaining before all = (logs : List LogMap) × (GaveLogs remaining before logs × AllAgree logs × (all ≡ union_all logs))
+GaveUnion remaining before all = (logs : List LogMap)
+    × (GaveLogs remaining before logs × AllAgree logs × (all ≡ union_all logs))
 
--- of inputs: the first that gave no log, or all gave logs and are at their ends, and joining these is refused
-abbrev pub UnionFails : {R : Type 0} → (R → Option (List ℕ)) → List (Latch R) → List (Latch R) → CliFault → Type 0
+-- of inputs: the first that gave no log, or all gave logs and are at their ends, and joining these
+-- is refused
+abbrev pub UnionFails : {R : Type 0} → (R → Option (List ℕ)) → List (Latch R) → List (Latch R)
+    → CliFault → Type 0
 UnionFails remaining before after fault =
-    HasCause remaining 0 before after fault ⊎ ((logs : List LogMap) × (GaveLogs remaining before logs × (AreRead remaining after × AllFail logs fault)))
+    HasCause remaining 0 before after fault ⊎ ((logs : List LogMap)
+        × (GaveLogs remaining before logs × (AreRead remaining after × AllFail logs fault)))
 
 -- of two logs
 abbrev pub JoinFails : LogMap → LogMap → CliFault → Type 0

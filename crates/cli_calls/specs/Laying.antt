@@ -1,5 +1,6 @@
 -- The lines of a script that lay recordings on a track, one behind another (profile).
-use Rattle.std.specs.Prelude.{◌≡◌, ℕ, ◌+◌, ◌^◌, ◌==◌, nat_le, not, List, [], ◌∷◌, ◌++◌, codes, Option, Some, None, Result, Ok, Err, if◌then◌else◌, Vec}
+use Rattle.std.specs.Prelude.{◌≡◌, ℕ, ◌+◌, ◌^◌, ◌==◌, nat_le, not, List, [], ◌∷◌, ◌++◌, codes}
+use Rattle.std.specs.Prelude.{Option, Some, None, Result, Ok, Err, if◌then◌else◌, Vec}
 use Rattle.sha2.specs.Sha256.{sha256}
 use Rattle.base_io.specs.Latch.{Latch}
 use Rattle.mt_bwfread.specs.Wave.{rate_of, frames_of}
@@ -20,18 +21,21 @@ use Rattle.cli_calls.specs.Sources.{GaveWave, IsSourceCause}
 
 -- what a clip of a whole recording names
 abbrev pub sound_of : List ℕ → Sound
-sound_of bytes = record { digest = record { 0 = sha256 bytes }; rate = rate_of bytes; frames = frames_of bytes }
+sound_of bytes = record { digest = record { 0 = sha256 bytes }; rate = rate_of bytes; frames =
+    frames_of bytes }
 
 -- the words of a script that add a clip of the whole recording to a track, at a position
 abbrev pub clip_words : List ℕ → ℕ → Sound → List ℕ
-clip_words track at s = codes "add-clip" ++ (word (digest_text s.digest) ++ (word track ++ (number_word at ++ (number_word 0 ++ number_word s.frames))))
+clip_words track at s = codes "add-clip" ++ (word (digest_text s.digest)
+    ++ (word track ++ (number_word at ++ (number_word 0 ++ number_word s.frames))))
 
 abbrev pub clip_line : List ℕ → ℕ → Sound → List ℕ
 clip_line track at s = clip_words track at s ++ newline ∷ []
 
 -- On a track that a stamp names these are the words of a log for an operation that adds this clip.
 abbrev pub LaidIsTold : Type 0
-LaidIsTold = (track : Stamp) (at : ℕ) (s : Sound) → clip_words (stamp_text track) at s ≡ act_text (AddClip s.digest track at 0 s.frames)
+LaidIsTold = (track : Stamp) (at : ℕ) (s : Sound) → clip_words (stamp_text track) at s
+    ≡ act_text (AddClip s.digest track at 0 s.frames)
 
 -- why a recording is not laid at a position, if it is not
 unfoldable pub lay_fault : Laying → ℕ → Sound → Option LayFault
@@ -47,16 +51,19 @@ behind text (Ok more) = Ok (text ++ more)
 behind text (Err fault) = Err fault
 
 -- the line of the recording of this index before others, where there is no fault of it
-abbrev pub unless_at_fault : ℕ → Option LayFault → List ℕ → Result (List ℕ) CliFault → Result (List ℕ) CliFault
+abbrev pub unless_at_fault : ℕ → Option LayFault → List ℕ → Result (List ℕ) CliFault
+    → Result (List ℕ) CliFault
 unless_at_fault index (Some fault) line rest = Err (Lay index fault)
 unless_at_fault index None line rest = behind line rest
 
--- The lines of the recordings from an index on: the first of them stands at this position, and each other where the one before it ends and the
--- gap is over. Or why the first one that is not laid is not.
+-- The lines of the recordings from an index on: the first of them stands at this position, and each
+-- other where the one before it ends and the gap is over. Or why the first one that is not laid is
+-- not.
 abbrev pub laid_from : Laying → ℕ → ℕ → List Sound → Result (List ℕ) CliFault
 laid_from l index at [] = Ok []
 laid_from l index at (s ∷ sounds) =
-    unless_at_fault index (lay_fault l at s) (clip_line l.track.now at s) (laid_from l (index + 1) (at + s.frames + l.gap) sounds)
+    unless_at_fault index (lay_fault l at s) (clip_line l.track.now at s)
+        (laid_from l (index + 1) (at + s.frames + l.gap) sounds)
 
 abbrev pub laid : Laying → List Sound → Result (List ℕ) CliFault
 laid l sounds = laid_from l 0 l.at sounds

@@ -1,5 +1,7 @@
--- What `pull` writes and tells of a log and of those that it takes operations from, and why it is refused.
-use Rattle.std.specs.Prelude.{◌≡◌, ◌-◌, ℕ, List, [], ◌∷◌, ◌++◌, drop, codes, Option, Result, Ok, Err, Vec}
+-- What `pull` writes and tells of a log and of those that it takes operations from, and why it is
+-- refused.
+use Rattle.std.specs.Prelude.{◌≡◌, ◌-◌, ℕ, List, [], ◌∷◌, ◌++◌, drop, codes, Option, Result, Ok}
+use Rattle.std.specs.Prelude.{Err, Vec}
 use Rattle.std.specs.List.{flat_map, zip}
 use Rattle.std.specs.FinMap as fin
 use Rattle.std.specs.Fmt.{decimal}
@@ -30,26 +32,31 @@ shares logs = shares_from fin.empty logs
 
 -- `from NAME new N shared N`
 abbrev pub share_line : List ℕ × PullCounts → List ℕ
-share_line named = codes "from " ++ (named.0 ++ (codes " new " ++ (decimal named.1.new ++ (codes " shared " ++ (decimal named.1.shared ++ newline ∷ [])))))
+share_line named = codes "from " ++ (named.0 ++ (codes " new "
+    ++ (decimal named.1.new ++ (codes " shared " ++ (decimal named.1.shared ++ newline ∷ [])))))
 
 -- a line for each under its name, in their order
 abbrev pub share_lines : List (List ℕ) → List PullCounts → List ℕ
 share_lines names parts = flat_map share_line (zip names parts)
 
--- What is told: of each log behind the first its share, under its name; and how many operations there are in all.
+-- What is told: of each log behind the first its share, under its name; and how many operations
+-- there are in all.
 abbrev pub told_text : List (List ℕ) → List PullCounts → ℕ → List ℕ
 told_text names parts count = share_lines names (drop 1 parts) ++ ops_line count
 
 abbrev pub pull_text : List (List ℕ) → List LogMap → List ℕ
 pull_text names logs = told_text names (shares logs) (fin.len (union_all logs))
 
--- `pull`: the union of logs that agree, and what each adds to it; or the first dot at which they clash
+-- `pull`: the union of logs that agree, and what each adds to it; or the first dot at which they
+-- clash
 abbrev pub PullMakes : List (List ℕ) → List LogMap → Result (List ℕ × List ℕ) CliFault → Type 0
-PullMakes names logs (Ok made) = AllAgree logs × ((made.0 ≡ text_of (union_all logs)) × (made.1 ≡ pull_text names logs))
+PullMakes names logs (Ok made) = AllAgree logs × ((made.0 ≡ text_of (union_all logs))
+    × (made.1 ≡ pull_text names logs))
 PullMakes names logs (Err (Merge dot)) = FirstConflict logs dot
 PullMakes names logs (Err _) = ⊥
 
-abbrev pub Pulls : {Z : Type 0} → List (List ℕ) → Vec LogMap Z → Result (List ℕ × List ℕ) CliFault → Type 0
+abbrev pub Pulls : {Z : Type 0} → List (List ℕ) → Vec LogMap Z → Result (List ℕ × List ℕ) CliFault
+    → Type 0
 Pulls names logs = PullMakes names logs.items
 
 -- each reader gave the text of the log at its place

@@ -31,13 +31,17 @@ GaveEach Gives [] (x ∷ xs) = ⊥
 GaveEach Gives (latch ∷ latches) [] = ⊥
 GaveEach Gives (latch ∷ latches) (x ∷ xs) = Gives latch x × GaveEach Gives latches xs
 
--- Why the first of the readers from an index on that is at fault gave nothing: those before it gave what they had and are at their ends, and
--- those behind it were not asked. Where memory ran out, it is the one that was being read, or the next.
-abbrev pub FirstCause : {L X : Type 0} → (L → Type 0) → (L → X → Type 0) → (ℕ → L → L → CliFault → Type 0) → ℕ → List L → List L → CliFault → Type 0
+-- Why the first of the readers from an index on that is at fault gave nothing: those before it gave
+-- what they had and are at their ends, and those behind it were not asked. Where memory ran out, it
+-- is the one that was being read, or the next.
+abbrev pub FirstCause : {L X : Type 0} → (L → Type 0) → (L → X → Type 0)
+    → (ℕ → L → L → CliFault → Type 0) → ℕ → List L → List L → CliFault → Type 0
 FirstCause Ended Gives Cause index [] new fault = fault ≡ Memory
 FirstCause Ended Gives Cause index (latch ∷ latches) [] fault = ⊥
 FirstCause {L} {X} Ended Gives Cause index (latch ∷ latches) (after ∷ afters) fault =
-    (Cause index latch after fault × (afters ≡ latches)) ⊎ ((x : X) × (Gives latch x × (Ended after × FirstCause Ended Gives Cause (index + 1) latches afters fault)))
+    (Cause index latch after fault × (afters ≡ latches))
+        ⊎ ((x : X) × (Gives latch x × (Ended after × FirstCause Ended Gives Cause (index + 1)
+        latches afters fault)))
 
 module _ {R : Type 0} (remaining : R → Option (List ℕ)) where
   -- these bytes are all that the reader had left, where it tells
@@ -52,7 +56,8 @@ module _ {R : Type 0} (remaining : R → Option (List ℕ)) where
   abbrev pub IsRead : Latch R → Type 0
   IsRead latch = (latch.failed ≡ false) × IsAtEnd (remaining latch.inner)
 
-  -- The reader gave the text of this log. A text is that of one log alone (`mt_opcodec::laws::one_log`).
+  -- The reader gave the text of this log. A text is that of one log alone
+  -- (`mt_opcodec::laws::one_log`).
   abbrev pub GaveLog : Latch R → LogMap → Type 0
   GaveLog latch m = Gave latch (text_of m) × IsLog m
 
@@ -66,13 +71,17 @@ module _ {R : Type 0} (remaining : R → Option (List ℕ)) where
 
   -- what is left of a reader is a rest of what it had; one whose latch had failed is as it was
   abbrev pub IsRest : Latch R → Latch R → Type 0
-  IsRest old new = ConsumesPrefix (remaining old.inner) (remaining new.inner) × (old.failed ≡ true → new ≡ old)
+  IsRest old new = ConsumesPrefix (remaining old.inner) (remaining new.inner)
+      × (old.failed ≡ true → new ≡ old)
 
-  -- why the reader of an index gave no log: the latch has failed, or all its bytes are no log's text
+  -- why the reader of an index gave no log: the latch has failed, or all its bytes are no log's
+  -- text
   abbrev pub IsCause : ℕ → Latch R → Latch R → CliFault → Type 0
   IsCause index old new Memory = IsRest old new
   IsCause index old new (Read place) = (place ≡ index) × (new.failed ≡ true) × IsRest old new
-  IsCause index old new (Log place fault) = (place ≡ index) × ((fault ≢ log.Memory) × (IsRead new × ((bytes : List ℕ) × (Gave old bytes × LogFails fault (log_at bytes)))))
+  IsCause index old new (Log place fault) = (place ≡ index)
+      × ((fault ≢ log.Memory) × (IsRead new × ((bytes : List ℕ)
+      × (Gave old bytes × LogFails fault (log_at bytes)))))
   IsCause index old new _ = ⊥
 
   -- the same of the readers from an index on
@@ -106,9 +115,10 @@ module _ {R : Type 0} (remaining : R → Option (List ℕ)) where
   GaveBoth (log ∷ (other ∷ [])) both = GaveLog log both.log × Gave other both.bytes.items
   GaveBoth _ both = ⊥
 
-  -- Why they did not: the log was not read, and the other was not asked; or the log was, and the other was not. What is left of either is a
-  -- rest of what it had.
+  -- Why they did not: the log was not read, and the other was not asked; or the log was, and the
+  -- other was not. What is left of either is a rest of what it had.
   abbrev pub BothCause : List (Latch R) → List (Latch R) → CliFault → Type 0
   BothCause (log ∷ (other ∷ [])) (log' ∷ (other' ∷ [])) fault =
-      (IsCause 0 log log' fault × (other' ≡ other)) ⊎ ((m : LogMap) × (GaveLog log m × (IsRead log' × (IsReadCause 1 other' fault × IsRest other other'))))
+      (IsCause 0 log log' fault × (other' ≡ other)) ⊎ ((m : LogMap)
+          × (GaveLog log m × (IsRead log' × (IsReadCause 1 other' fault × IsRest other other'))))
   BothCause _ _ fault = ⊥

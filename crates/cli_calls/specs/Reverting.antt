@@ -6,8 +6,10 @@ use Rattle.text_revert.specs.Revert.{first_missing, revert_text}
 use Rattle.cli_calls.specs.declared.fault.CliFault.{CliFault}
 use Rattle.cli_calls.specs.declared.fault.CliFault.TheVariants.{NoSuchItem}
 
--- `revert`: the script that takes the operations of these stamps back, or, where the log has none of one of them, a refusal that counts none
+-- `revert`: the script that takes the operations of these stamps back, or, where the log has none
+-- of one of them, a refusal that counts none
 abbrev pub Reverting : List Stamp → LogMap → Result (List ℕ) CliFault → Type 0
-Reverting stamps log (Ok bytes) = (first_missing log stamps ≡ None) × (bytes ≡ revert_text log stamps)
+Reverting stamps log (Ok bytes) = (first_missing log stamps ≡ None)
+    × (bytes ≡ revert_text log stamps)
 Reverting stamps log (Err (NoSuchItem count)) = (count ≡ 0) × (first_missing log stamps ≢ None)
 Reverting stamps log (Err _) = ⊥

@@ -12,9 +12,11 @@ use Rattle.cli_calls.specs.Reading.{Gave, IsRead, IsRest, GaveEach, FirstCause}
 abbrev pub bytes_in : {Z : Type 0} → List (Vec ℕ Z) → List (List ℕ)
 bytes_in texts = map (λ t. t.items) texts
 
--- What is kept of recordings has what these have under each digest that is wanted: the same bytes, or neither has any.
+-- What is kept of recordings has what these have under each digest that is wanted: the same bytes,
+-- or neither has any.
 abbrev pub HoldWanted : (Digest → Bool) → List (List ℕ) → List (List ℕ) → Type 0
-HoldWanted wanted kept texts = (d : Digest) → wanted d ≡ true → found (sources_of kept) d ≡ found (sources_of texts) d
+HoldWanted wanted kept texts = (d : Digest) → wanted d ≡ true → found (sources_of kept) d
+    ≡ found (sources_of texts) d
 
 module _ {R : Type 0} (remaining : R → Option (List ℕ)) where
   -- the reader gave the bytes of a wave file
@@ -27,14 +29,19 @@ module _ {R : Type 0} (remaining : R → Option (List ℕ)) where
 
   -- each reader gave a wave file, and of these it is kept what is wanted
   abbrev pub GaveKept : (Digest → Bool) → List (Latch R) → List (List ℕ) → Type 0
-  GaveKept wanted latches kept = (texts : List (List ℕ)) × (GaveWaves latches texts × HoldWanted wanted kept texts)
+  GaveKept wanted latches kept = (texts : List (List ℕ))
+      × (GaveWaves latches texts × HoldWanted wanted kept texts)
 
-  -- Why the reader of an index gave no wave file: the latch has failed, or its bytes are none, by the first of their faults. As a
-  -- reader it is counted behind so many others, and as a recording it is not.
+  -- Why the reader of an index gave no wave file: the latch has failed, or its bytes are none, by
+  -- the first of their faults. As a reader it is counted behind so many others, and as a recording
+  -- it is not.
   abbrev pub IsSourceCause : ℕ → ℕ → Latch R → Latch R → CliFault → Type 0
   IsSourceCause others index old new Memory = IsRest remaining old new
-  IsSourceCause others index old new (Read place) = (place ≡ others + index) × (new.failed ≡ true) × IsRest remaining old new
-  IsSourceCause others index old new (Source place fault) = (place ≡ index) × (IsRead remaining new × ((bytes : List ℕ) × (Gave remaining old bytes × (fault_of bytes ≡ Some fault))))
+  IsSourceCause others index old new (Read place) = (place ≡ others + index) × (new.failed ≡ true)
+      × IsRest remaining old new
+  IsSourceCause others index old new (Source place fault) = (place ≡ index)
+      × (IsRead remaining new × ((bytes : List ℕ) × (Gave remaining old bytes
+      × (fault_of bytes ≡ Some fault))))
   IsSourceCause others index old new _ = ⊥
 
   -- the same of the readers from an index on

@@ -14,7 +14,8 @@ use Rattle.cli_calls.specs.declared.fault.CliFault.{CliFault}
 use Rattle.cli_calls.specs.declared.form.TextOptions.{TextOptions}
 use Rattle.cli_calls.specs.declared.source_list.Listed.{Listed}
 use Rattle.cli_calls.specs.Form.{in_form}
-use Rattle.cli_calls.specs.Reading.{Gave, GaveLog, GaveEach, FirstCause, IsRead, IsCause, IsReadCause, IsRest}
+use Rattle.cli_calls.specs.Reading.{Gave, GaveLog, GaveEach, FirstCause, IsRead, IsCause}
+use Rattle.cli_calls.specs.Reading.{IsReadCause, IsRest}
 
 -- what files are, each under the name at its place
 abbrev pub given : List ℕ × Result Recording WaveFault → GivenFile
@@ -24,13 +25,16 @@ abbrev pub given_files : List (List ℕ) → List (Result Recording WaveFault) �
 given_files names recordings = map given (zip names recordings)
 
 -- the text on a log's session and files of these names, in a form of lines
-abbrev pub listing : TextOptions → Listing → LogMap → List (List ℕ) → List (Result Recording WaveFault) → List ℕ
-listing form which log names recordings = in_form form (listing_text which (session_of (operations log)).tracks (given_files names recordings))
+abbrev pub listing : TextOptions → Listing → LogMap → List (List ℕ)
+    → List (Result Recording WaveFault) → List ℕ
+listing form which log names recordings = in_form form
+    (listing_text which (session_of (operations log)).tracks (given_files names recordings))
 
 module _ {R : Type 0} (remaining : R → Option (List ℕ)) where
   -- the reader gave bytes that are this recording, or no wave file for this reason
   abbrev pub GaveRecording : Latch R → Result Recording WaveFault → Type 0
-  GaveRecording latch r = (bytes : List ℕ) × (Gave remaining latch bytes × (r ≡ recording_of bytes (fault_of bytes)))
+  GaveRecording latch r = (bytes : List ℕ) × (Gave remaining latch bytes
+      × (r ≡ recording_of bytes (fault_of bytes)))
 
   -- why the reader of a file, which is counted behind the log, was not read to its end
   abbrev pub IsFileCause : ℕ → Latch R → Latch R → CliFault → Type 0
@@ -42,13 +46,16 @@ module _ {R : Type 0} (remaining : R → Option (List ℕ)) where
 
   -- the first reader gave a log, and each of the others the recording at its place
   abbrev pub GaveListed : {A : Type 0} → List (Latch R) → Listed A → Type 0
-  GaveListed (log ∷ files) listed = GaveLog remaining log listed.log × GaveEach GaveRecording files listed.recordings.items
+  GaveListed (log ∷ files) listed = GaveLog remaining log listed.log
+      × GaveEach GaveRecording files listed.recordings.items
   GaveListed [] listed = ⊥
 
   -- the first gave no log, and no other was asked; or it did, and another was not read
   abbrev pub ListedCause : List (Latch R) → List (Latch R) → CliFault → Type 0
   ListedCause (log ∷ files) (log' ∷ files') fault =
-      (IsCause remaining 0 log log' fault × (files' ≡ files)) ⊎ ((m : LogMap) × (GaveLog remaining log m × (IsRead remaining log' × HasFileCause files files' fault)))
+      (IsCause remaining 0 log log' fault × (files' ≡ files))
+          ⊎ ((m : LogMap) × (GaveLog remaining log m × (IsRead remaining log'
+          × HasFileCause files files' fault)))
   ListedCause _ _ fault = ⊥
 
 -- `sources`: the text on the recordings that the log's session names, and on these files

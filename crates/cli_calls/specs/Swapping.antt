@@ -1,5 +1,7 @@
--- What the commands make by which editors swap operations, of a log and of what another editor sent.
-use Rattle.std.specs.Prelude.{◌≡◌, ◌≢◌, ℕ, true, List, [], Option, Some, None, Result, Ok, Err, OnOk, IfErr, ◌⊎◌}
+-- What the commands make by which editors swap operations, of a log and of what another editor
+-- sent.
+use Rattle.std.specs.Prelude.{◌≡◌, ◌≢◌, ℕ, true, List, [], Option, Some, None, Result, Ok, Err}
+use Rattle.std.specs.Prelude.{OnOk, IfErr, ◌⊎◌}
 use Rattle.base_io.specs.Latch.{Latch}
 use Rattle.mt_opcodec.specs.LogValue.{LogMap}
 use Rattle.sync_messages.specs.declared.fault.MessageFault.TheVariants as message
@@ -9,7 +11,8 @@ use Rattle.mt_sync.specs.declared.fault.SyncFault.{SyncFault}
 use Rattle.mt_sync.specs.declared.fault.SyncFault.TheVariants as sync
 use Rattle.mt_sync.specs.Conversation.{awaits_ops, receives}
 use Rattle.mt_sync.specs.Feeding.{end_at}
-use Rattle.mt_sync.specs.Conversing.{HasBytes, Lacks, TakesAll, conversant, ConversesAs, AreSound, Blames}
+use Rattle.mt_sync.specs.Conversing.{HasBytes, Lacks, TakesAll, conversant, ConversesAs, AreSound}
+use Rattle.mt_sync.specs.Conversing.{Blames}
 use Rattle.mt_sync.specs.Leaving.{StaysOrFails}
 use Rattle.cli_calls.specs.declared.both.LogAndBytes.{LogAndBytes}
 use Rattle.cli_calls.specs.declared.fault.CliFault.{CliFault}
@@ -22,23 +25,29 @@ use Rattle.cli_calls.specs.Writing.{HasWritten, HasFailed}
 -- `have`: the frame of the log's Have, where it fits one
 abbrev pub Having : LogMap → Result (List ℕ) CliFault → Type 0
 Having log (Ok bytes) = HasBytes (λ out. out) log (Ok bytes)
-Having log (Err (Message fault)) = (fault ≢ message.Memory) × HasBytes {X = List ℕ} (λ out. out) log (Err fault)
+Having log (Err (Message fault)) = (fault ≢ message.Memory)
+    × HasBytes {X = List ℕ} (λ out. out) log (Err fault)
 Having log (Err _) = ⊥
 
--- `lack`: what the log has and the summary does not cover that the bytes say, and Bye; the bytes are one frame with a Have
+-- `lack`: what the log has and the summary does not cover that the bytes say, and Bye; the bytes
+-- are one frame with a Have
 abbrev pub Lacking : LogMap → List ℕ → Result (List ℕ) CliFault → Type 0
 Lacking log asked (Ok bytes) = Lacks (λ out. out) log asked (Ok bytes)
-Lacking log asked (Err (Message fault)) = (fault ≢ message.Memory) × Lacks {X = List ℕ} (λ out. out) log asked (Err fault)
+Lacking log asked (Err (Message fault)) = (fault ≢ message.Memory)
+    × Lacks {X = List ℕ} (λ out. out) log asked (Err fault)
 Lacking log asked (Err _) = ⊥
 
 -- what another editor sent, which ends with Bye, brings a log's editor to this set
 abbrev pub Taken : LogMap → List ℕ → LogMap → Type 0
-Taken log sent set = TakesAll (receives (end_at (awaits_ops None) [] (Some log)) sent) (Ok tt) (Some set)
+Taken log sent set = TakesAll (receives (end_at (awaits_ops None) [] (Some log)) sent) (Ok tt)
+    (Some set)
 
 -- it is not taken
 abbrev pub NotTaken : LogMap → List ℕ → CliFault → Type 0
 NotTaken log sent Memory = Unit {0}
-NotTaken log sent (Sync fault) = (fault ≢ sync.Talk talk.Memory) × ((set : Option LogMap) × TakesAll (receives (end_at (awaits_ops None) [] (Some log)) sent) (Err fault) set)
+NotTaken log sent (Sync fault) = (fault ≢ sync.Talk talk.Memory)
+    × ((set : Option LogMap) × TakesAll (receives (end_at (awaits_ops None) [] (Some log)) sent)
+    (Err fault) set)
 NotTaken log sent _ = ⊥
 
 -- `take`: the text of the set that the log's editor comes to by these bytes
@@ -56,22 +65,27 @@ TakeMakes both = Taking both.log both.bytes.items
 
 -- ---- by a conversation
 
--- what is lent to it, before or after: the holder's set, which is gone where the holder has failed, what is read from the other end and
--- written to it, and the output
+-- what is lent to it, before or after: the holder's set, which is gone where the holder has failed,
+-- what is read from the other end and written to it, and the output
 pub record TalkLent (R W O : Type 0) : Type 0 where
   pub set : Option LogMap
   pub reader : Latch R
   pub writer : Latch W
   pub output : Latch O
 
-abbrev pub lent_talk : {R W O : Type 0} → Option LogMap → Latch R → Latch W → Latch O → TalkLent R W O
-lent_talk set reader writer output = record { set = set; reader = reader; writer = writer; output = output }
+abbrev pub lent_talk : {R W O : Type 0} → Option LogMap → Latch R → Latch W → Latch O
+    → TalkLent R W O
+lent_talk set reader writer output = record { set = set; reader = reader; writer = writer; output =
+    output }
 
-module _ {R W O : Type 0} (remaining : R → Option (List ℕ)) (written : W → Option (List ℕ)) (contents : O → Option (List ℕ)) (side : Side) (before after : TalkLent R W O) where
-  -- the conversation has read, written and left what `converse` says of this answer, this set among it
+module _ {R W O : Type 0} (remaining : R → Option (List ℕ)) (written : W → Option (List ℕ))
+    (contents : O → Option (List ℕ)) (side : Side) (before after : TalkLent R W O) where
+  -- the conversation has read, written and left what `converse` says of this answer, this set among
+  -- it
   abbrev pub HasConversedTo : Option LogMap → Result (Unit {0}) SyncFault → Type 0
   HasConversedTo set answer =
-      ConversesAs side (conversant before.set (remaining before.reader.inner) (written before.writer.inner))
+      ConversesAs side (conversant before.set (remaining before.reader.inner)
+          (written before.writer.inner))
       (conversant set (remaining after.reader.inner) (written after.writer.inner)) answer
 
   abbrev pub HasConversed : Result (Unit {0}) SyncFault → Type 0
@@ -79,7 +93,8 @@ module _ {R W O : Type 0} (remaining : R → Option (List ℕ)) (written : W →
 
   -- it came to its end, and memory ran out after it, by which the set may be gone
   abbrev pub HasConversedInVain : Type 0
-  HasConversedInVain = (set : Option LogMap) × (HasConversedTo set (Ok tt) × StaysOrFails set after.set)
+  HasConversedInVain = (set : Option LogMap) × (HasConversedTo set (Ok tt)
+      × StaysOrFails set after.set)
 
   -- it came to its end with both its streams sound, and left this set
   abbrev pub HasMet : LogMap → Type 0
@@ -87,13 +102,19 @@ module _ {R W O : Type 0} (remaining : R → Option (List ℕ)) (written : W →
 
   -- it came to its end, and the text of the set that it left was written
   abbrev pub SwapWritten : Type 0
-  SwapWritten = (set : LogMap) × (HasMet set × HasWritten contents (text_of set) before.output after.output)
+  SwapWritten = (set : LogMap) × (HasMet set × HasWritten contents (text_of set) before.output
+      after.output)
 
-  -- It stopped, with its cause, or memory ran out in it or after it, each with the output as it was; or the output has failed.
+  -- It stopped, with its cause, or memory ran out in it or after it, each with the output as it
+  -- was; or the output has failed.
   abbrev pub SwapFails : CliFault → Type 0
-  SwapFails Memory = (HasConversed (Err (sync.Talk talk.Memory)) ⊎ HasConversedInVain) × (after.output ≡ before.output)
-  SwapFails (Sync fault) = (fault ≢ sync.Talk talk.Memory) × ((HasConversed (Err fault) × Blames remaining after.reader after.writer fault) × (after.output ≡ before.output))
-  SwapFails Write = (set : LogMap) × (HasMet set × HasFailed contents (text_of set) before.output after.output)
+  SwapFails Memory = (HasConversed (Err (sync.Talk talk.Memory)) ⊎ HasConversedInVain)
+      × (after.output ≡ before.output)
+  SwapFails (Sync fault) = (fault ≢ sync.Talk talk.Memory)
+      × ((HasConversed (Err fault) × Blames remaining after.reader after.writer fault)
+      × (after.output ≡ before.output))
+  SwapFails Write = (set : LogMap) × (HasMet set × HasFailed contents (text_of set) before.output
+      after.output)
   SwapFails _ = ⊥
 
 -- what is made of the set of a holder, which may have failed: its text
@@ -106,11 +127,16 @@ abbrev pub LendLeaves : Option LogMap → Option LogMap → CliFault → Type 0
 LendLeaves old new Memory = StaysOrFails old new
 LendLeaves old new _ = new ≡ old
 
--- Operations were swapped with the other end of a conversation, and the log of the holder was written.
-pub record Swapped {R W O : Type 0} (remaining : R → Option (List ℕ)) (sent : W → Option (List ℕ)) (contents : O → Option (List ℕ)) (side : Side) (before after : TalkLent R W O) (result : Result (Unit {0}) CliFault) : Type 0 where
-  -- The conversation came to its end, and the text of the set that it left was written, and nothing else.
+-- Operations were swapped with the other end of a conversation, and the log of the holder was
+-- written.
+pub record Swapped {R W O : Type 0} (remaining : R → Option (List ℕ)) (sent : W → Option (List ℕ))
+    (contents : O → Option (List ℕ)) (side : Side) (before after : TalkLent R W O)
+    (result : Result (Unit {0}) CliFault) : Type 0 where
+  -- The conversation came to its end, and the text of the set that it left was written, and nothing
+  -- else.
   pub written : OnOk result (SwapWritten remaining sent contents side before after)
-  -- The conversation stopped, for this cause, or memory ran out in it or after it, each with the output as it was; or the output has failed.
+  -- The conversation stopped, for this cause, or memory ran out in it or after it, each with the
+  -- output as it was; or the output has failed.
   pub refused : IfErr result (SwapFails remaining sent contents side before after)
   -- A latch that had failed stays as it was.
   pub reader_stays : before.reader.failed ≡ true → after.reader ≡ before.reader

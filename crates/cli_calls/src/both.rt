@@ -53,9 +53,9 @@ impl<A: Allocator + Clone> Input<A> for LogThenBytes {
 
 /// Reads the log of an input, to let it grow.
 ///
-/// Errors: `Read` (45) where the input's latch has failed; `Log` (11 to 16, 52) where its bytes are no
-/// log, each with index 0; `Memory` (0) where an allocation failed. The input is read to its end, unless
-/// its latch has failed or memory ran out.
+/// Errors: `Read` (45) where the input's latch has failed; `Log` (11 to 16, 52) where its bytes are
+/// no log, each with index 0; `Memory` (0) where an allocation failed. The input is read to its
+/// end, unless its latch has failed or memory ran out.
 pub fn read_growing<A: Allocator + Clone, R: Read>(
     alloc: A,
     input: &mut Latch<R>,

@@ -2,7 +2,8 @@
 
 ghost use Rattle.std.specs.Prelude.{◌≡◌, ◌≤◌, length};
 ghost use Rattle.mt_opcodec.specs.LogValue.{operations};
-ghost use Rattle.cli_calls.specs.Checking.{Checks, ChecksSession, GaveLogAndWaves, LogAndWavesCause};
+ghost use Rattle.cli_calls.specs.Checking.{Checks, ChecksSession, GaveLogAndWaves};
+ghost use Rattle.cli_calls.specs.Checking.{LogAndWavesCause};
 ghost use Rattle.cli_calls.specs.Running.{lent, Ran};
 ghost use Rattle.cli_calls.specs.Writing.{Wrote};
 
@@ -126,14 +127,15 @@ impl<A: Allocator + Clone> Command<A, Programme<A>> for Check<'_, '_> {
     }
 }
 
-/// Writes what sounds otherwise than one may think where the session of the log of the first input is rendered
-/// from the recordings of the others, in a format and with a head: the text of text_check's
-/// `warnings_text` in a form of lines. Nothing is mixed.
+/// Writes what sounds otherwise than one may think where the session of the log of the first input
+/// is rendered from the recordings of the others, in a format and with a head: the text of
+/// text_check's `warnings_text` in a form of lines. Nothing is mixed.
 ///
-/// Errors as `bounce_logs` of this log: `Read` (45) with the index of an input whose latch has failed, `Log`
-/// (11 to 16, 52) with index 0, `Source` (26 to 32) with the index of a recording that is no wave file,
-/// counted from 0, `Mix` where the programme cannot be mixed or its file would be too long (33 to 35);
-/// `Write` (37) where the output's latch has failed, which then holds a prefix of the text; `Memory` (0).
+/// Errors as `bounce_logs` of this log: `Read` (45) with the index of an input whose latch has
+/// failed, `Log` (11 to 16, 52) with index 0, `Source` (26 to 32) with the index of a recording
+/// that is no wave file, counted from 0, `Mix` where the programme cannot be mixed or its file
+/// would be too long (33 to 35); `Write` (37) where the output's latch has failed, which then holds
+/// a prefix of the text; `Memory` (0).
 pub fn check_log<A: Allocator + Clone, R: Read, W: Write>(
     alloc: A,
     form: TextOptions,

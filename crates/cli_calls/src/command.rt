@@ -20,9 +20,11 @@ pub(crate) trait Input<A: Allocator> {
 
     ghost fits: { Self → (R : Type 0) → List (Latch R) → Type 0 };
 
-    ghost given: { Self → (R : Type 0) → (R → Option (List ℕ)) → List (Latch R) → Self.Value → Type 0 };
+    ghost given: { Self → (R : Type 0) → (R → Option (List ℕ)) → List (Latch R) → Self.Value
+        → Type 0 };
 
-    ghost cause: { Self → (R : Type 0) → (R → Option (List ℕ)) → List (Latch R) → List (Latch R) → Fault → Type 0 };
+    ghost cause: { Self → (R : Type 0) → (R → Option (List ℕ)) → List (Latch R) → List (Latch R)
+        → Fault → Type 0 };
 
     /// Reads them, from left to right.
     fn read_from<R: Read>(
@@ -83,7 +85,8 @@ pub(crate) trait Printing<A: Allocator, V> {
 
     /// Makes the bytes and the text.
     fn make(&self, alloc: A, value: V) -> Result<Made<A>, CliFault>
-        ensures ok { IfOk result (λ made. makes self.now value (Ok (made.bytes.items, string_bytes made.text))) }
+        ensures ok { IfOk result (λ made. makes self.now value
+            (Ok (made.bytes.items, string_bytes made.text))) }
         ensures err { IfErr result (Refuses (makes self.now value)) };
 }
 
@@ -93,7 +96,8 @@ fn put_made<A: Allocator, W: Write, T: Write>(
     output: &mut Latch<W>,
     printed: &mut Latch<T>,
 ) -> Result<(), CliFault>
-    ensures { WroteBoth W.contents T.contents (λ m. m ≡ Ok (made.now.bytes.items, string_bytes made.now.text))
+    ensures { WroteBoth W.contents T.contents (λ m. m ≡ Ok
+        (made.now.bytes.items, string_bytes made.now.text))
         (outputs output.old printed.old) (outputs output.new printed.new) result }
 {
     if output.put(&made.bytes).is_err() {
@@ -105,7 +109,8 @@ fn put_made<A: Allocator, W: Write, T: Write>(
     }
 }
 
-/// Reads the inputs, writes the bytes that the command makes of what they gave, and prints its text.
+/// Reads the inputs, writes the bytes that the command makes of what they gave, and prints its
+/// text.
 pub(crate) fn run_and_print<
     A: Allocator,
     I: Input<A>,
@@ -124,7 +129,8 @@ pub(crate) fn run_and_print<
 where
     I::Value: Drop,
     requires fits { I.fits from.now R inputs.old }
-    ensures { RanAndPrinted R.remaining (I.given from.now R R.remaining) (I.cause from.now R R.remaining)
+    ensures { RanAndPrinted R.remaining (I.given from.now R R.remaining)
+        (I.cause from.now R R.remaining)
         (C.makes command.now) W.contents T.contents (lent inputs.old (outputs output.old printed.old))
         (lent inputs.new (outputs output.new printed.new)) result }
 {

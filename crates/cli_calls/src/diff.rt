@@ -1,7 +1,8 @@
 //! Two logs beside each other.
 
 ghost use Rattle.std.specs.Prelude.{◌≡◌, IfOk, IfErr, OnOk, length};
-ghost use Rattle.cli_calls.specs.Comparing.{diff_by, diff_in, begins_as_frame, IsLogOf, IsNoLogOf, GaveLogOf, GaveNoLog, GaveTwoLogs, TwoLogsCause};
+ghost use Rattle.cli_calls.specs.Comparing.{diff_by, diff_in, begins_as_frame, IsLogOf, IsNoLogOf};
+ghost use Rattle.cli_calls.specs.Comparing.{GaveLogOf, GaveNoLog, GaveTwoLogs, TwoLogsCause};
 ghost use Rattle.cli_calls.specs.Reading.{IsRead};
 ghost use Rattle.cli_calls.specs.Running.{lent, Ran};
 ghost use Rattle.cli_calls.specs.Writing.{Prints};
@@ -159,16 +160,18 @@ impl<A: Allocator + Clone> Command<A, TwoLogs<A>> for Diff {
     }
 }
 
-/// Writes the logs of two inputs beside each other, in the way that is asked for and in a form of lines.
+/// Writes the logs of two inputs beside each other, in the way that is asked for and in a form of
+/// lines.
 ///
-/// An input whose first byte is 0 is read as what `lack` wrote, frames of operations up to Bye: its log is
-/// that of these operations alone. Every other one is read as the text of a log. `frames` is where the
-/// bytes of a frame that is not whole are kept. For n operations it takes a time of n log n.
+/// An input whose first byte is 0 is read as what `lack` wrote, frames of operations up to Bye: its
+/// log is that of these operations alone. Every other one is read as the text of a log. `frames` is
+/// where the bytes of a frame that is not whole are kept. For n operations it takes a time of n log
+/// n.
 ///
-/// Errors, in this order: `Read` (45), `Log` (11 to 16, 52), or `Sync` (40, 38, 39, 17 or 49) of the left
-/// input, with index 0, and the right one was not asked then; the same of the right input, with index 1;
-/// `Write` (37) where the output's latch has failed, which then holds a prefix of the text; `Memory` (0)
-/// where an allocation failed.
+/// Errors, in this order: `Read` (45), `Log` (11 to 16, 52), or `Sync` (40, 38, 39, 17 or 49) of
+/// the left input, with index 0, and the right one was not asked then; the same of the right input,
+/// with index 1; `Write` (37) where the output's latch has failed, which then holds a prefix of the
+/// text; `Memory` (0) where an allocation failed.
 pub fn diff_logs<A: Allocator + Clone, R: Read, W: Write>(
     alloc: A,
     frames: Global,
@@ -178,7 +181,8 @@ pub fn diff_logs<A: Allocator + Clone, R: Read, W: Write>(
     output: &mut Latch<W>,
 ) -> Result<(), CliFault>
     requires two { length inputs.old ≡ 2 }
-    ensures { Ran R.remaining (GaveTwoLogs R.remaining {Z = A}) (TwoLogsCause R.remaining) (Prints (diff_in lines form))
+    ensures { Ran R.remaining (GaveTwoLogs R.remaining {Z = A}) (TwoLogsCause R.remaining)
+        (Prints (diff_in lines form))
         W.contents (lent inputs.old output.old) (lent inputs.new output.new) result }
 {
     run(

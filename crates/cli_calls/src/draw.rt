@@ -38,7 +38,8 @@ fn drawing_of<A: Allocator + Clone, B: Allocator, C: Allocator>(
 ) -> Result<Vec<u8, A>, AllocError>
     requires columns { 1 ≤ columns_of drawing }
     requires rate { 1 ≤ rate }
-    ensures { IfOk result (λ text. text.items ≡ drawing_text drawing rate recordings.now session.now) }
+    ensures { IfOk result (λ text. text.items ≡ drawing_text drawing rate recordings.now
+        session.now) }
 {
     match drawing {
         Drawing::Text { width, lengths } => timeline_text(alloc, width, lengths, rate, session),
@@ -84,8 +85,8 @@ impl<A: Allocator + Clone, C: Allocator> Command<A, Log<A>> for Drawn<'_, '_, '_
     }
 }
 
-/// Draws the session of the union of the inputs' logs, and writes nothing else: the text of `text_timeline`,
-/// in a number of columns, or the one of `text_svg`. Fails as `view_logs`.
+/// Draws the session of the union of the inputs' logs, and writes nothing else: the text of
+/// `text_timeline`, in a number of columns, or the one of `text_svg`. Fails as `view_logs`.
 pub fn draw_logs<A: Allocator + Clone, C: Allocator, R: Read, W: Write>(
     alloc: A,
     how: &SessionDrawing<'_, '_, C>,
@@ -94,7 +95,8 @@ pub fn draw_logs<A: Allocator + Clone, C: Allocator, R: Read, W: Write>(
 ) -> Result<(), CliFault>
     requires columns { 1 ≤ columns_of how.now.drawing }
     requires rate { 1 ≤ how.now.rate }
-    ensures { Ran R.remaining (GaveUnion R.remaining) (UnionFails R.remaining) (Prints (log_drawing how.now))
+    ensures { Ran R.remaining (GaveUnion R.remaining) (UnionFails R.remaining)
+        (Prints (log_drawing how.now))
         W.contents (lent inputs.old output.old) (lent inputs.new output.new) result }
 {
     run(&UnionOfLogs, &Drawn { how }, alloc, inputs, output)

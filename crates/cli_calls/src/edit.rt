@@ -39,7 +39,8 @@ pub(crate) fn append_number_line<A: Allocator>(
     front: &str,
     number: u64,
 ) -> Result<(), AllocError>
-    ensures { OnOk result (string_bytes text.new ≡ string_bytes text.old ++ number_line front.now number) }
+    ensures { OnOk result (string_bytes text.new ≡ string_bytes text.old
+        ++ number_line front.now number) }
 {
     append_number(text, front, number)?;
     text.push_str("\n")
@@ -54,7 +55,8 @@ fn count_text<A: Allocator>(alloc: A, count: usize) -> Result<String<A>, AllocEr
     Ok(text)
 }
 
-// The bytes of what is left of a draft, its log, and the line of how many changes were made. `Memory` also where the draft has failed.
+// The bytes of what is left of a draft, its log, and the line of how many changes were made.
+// `Memory` also where the draft has failed.
 fn made_of<A: Allocator + Clone>(
     alloc: A,
     log: &Option<Log<A>>,
@@ -81,7 +83,8 @@ fn edited<A: Allocator + Clone>(
     log: Log<A>,
     script: &[u8],
 ) -> Result<Made<A>, CliFault>
-    ensures ok { IfOk result (λ made. EditMakes name log script.now (Ok (made.bytes.items, string_bytes made.text))) }
+    ensures ok { IfOk result (λ made. EditMakes name log script.now
+        (Ok (made.bytes.items, string_bytes made.text))) }
     ensures err { IfErr result (Refuses (EditMakes name log script.now)) }
 {
     let Ok(draft) = Draft::new(alloc.clone()?, name, log) else {
@@ -117,15 +120,16 @@ impl<A: Allocator + Clone> Printing<A, LogAndBytes<A>> for Edit {
     }
 }
 
-/// Makes the changes of the script that the second input gives to the first input's log, as the editor of
-/// this name, all or none; writes the new log into `output`, and then the line `ops N` into `printed`, the
-/// number of changes. Where a rate is given the script may say times and decibels, at so many frames a
-/// second, of which 0 counts as 1 (`text_json::with_frames`).
+/// Makes the changes of the script that the second input gives to the first input's log, as the
+/// editor of this name, all or none; writes the new log into `output`, and then the line `ops N`
+/// into `printed`, the number of changes. Where a rate is given the script may say times and
+/// decibels, at so many frames a second, of which 0 counts as 1 (`text_json::with_frames`).
 ///
-/// Errors, in this order: as `lack_log` while reading; `Script` at the first line at fault, with its number,
-/// counted from 1 (41 or 42); `Write` (37) where the latch of `output` has failed, which then holds a prefix
-/// of the new log's text, and nothing was printed; `Print` (37) where that of `printed` has failed, which
-/// then holds a prefix of the line; `Memory` (0) where an allocation failed.
+/// Errors, in this order: as `lack_log` while reading; `Script` at the first line at fault, with
+/// its number, counted from 1 (41 or 42); `Write` (37) where the latch of `output` has failed,
+/// which then holds a prefix of the new log's text, and nothing was printed; `Print` (37) where
+/// that of `printed` has failed, which then holds a prefix of the line; `Memory` (0) where an
+/// allocation failed.
 pub fn edit_log<A: Allocator + Clone, R: Read, W: Write, T: Write>(
     alloc: A,
     name: Replica,
@@ -135,7 +139,8 @@ pub fn edit_log<A: Allocator + Clone, R: Read, W: Write, T: Write>(
     printed: &mut Latch<T>,
 ) -> Result<(), CliFault>
     requires two { length inputs.old ≡ 2 }
-    ensures { RanAndPrinted R.remaining (GaveBoth R.remaining {Z = A}) (BothCause R.remaining) (Edits name rate)
+    ensures { RanAndPrinted R.remaining (GaveBoth R.remaining {Z = A}) (BothCause R.remaining)
+        (Edits name rate)
         W.contents T.contents (lent inputs.old (outputs output.old printed.old))
         (lent inputs.new (outputs output.new printed.new)) result }
 {

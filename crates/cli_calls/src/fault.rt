@@ -27,8 +27,8 @@ pub enum PartFault {
     /// `OUT.part` cannot be made, or cannot have the permissions of OUT.
     #[error("cannot be made")]
     NotMade,
-    /// What was written cannot get the name OUT: the system does not give it, or OUT is a log that was read, and another program has replaced
-    /// it since, or holds its lock.
+    /// What was written cannot get the name OUT: the system does not give it, or OUT is a log that
+    /// was read, and another program has replaced it since, or holds its lock.
     #[error("cannot get its name")]
     NotNamed,
 }
@@ -62,7 +62,8 @@ pub enum LayFault {
 }
 
 impl LayFault {
-    /// The refusal's number: that of a clip without a frame, of another rate in a render, and of a programme that is too long.
+    /// The refusal's number: that of a clip without a frame, of another rate in a render, and of a
+    /// programme that is too long.
     pub fn number(&self) -> u8
         ensures { result ≡ lay_number self.now }
     {
@@ -74,7 +75,8 @@ impl LayFault {
     }
 }
 
-/// Why a command was refused. Inputs are counted from 0. It tells all that is known of the cause: which input, record, line or output.
+/// Why a command was refused. Inputs are counted from 0. It tells all that is known of the cause:
+/// which input, record, line or output.
 #[derive(Clone, Copy, Debug, PartialEq, Eq, Error)]
 pub enum CliFault {
     #[error("out of memory")]
@@ -124,7 +126,8 @@ pub enum CliFault {
     /// The script is refused, at the line that the fault tells.
     #[error("the script is refused: {0}")]
     Script(ScriptFault),
-    /// The bytes that are to say what another editor has are no such message, or the message of a log is too long.
+    /// The bytes that are to say what another editor has are no such message, or the message of a
+    /// log is too long.
     #[error("what an editor has: {0}")]
     Message(MessageFault),
     /// The conversation, or the taking of another editor's operations, did not come to its end.

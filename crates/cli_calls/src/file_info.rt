@@ -41,7 +41,8 @@ pub struct InfoForm {
 
 // At how many frames a second times are printed of the file of this outline, if they are.
 fn rate_in<A: Allocator>(unit: InfoUnit, header: &WaveHeader<A>) -> Option<u32>
-    ensures { (bytes : List ℕ) → IsWaveHeader bytes header.now → IsWave bytes → result ≡ rate_in unit bytes }
+    ensures { (bytes : List ℕ) → IsWaveHeader bytes header.now → IsWave bytes → result
+        ≡ rate_in unit bytes }
 {
     match unit {
         InfoUnit::Frames => None,
@@ -53,7 +54,8 @@ fn rate_in<A: Allocator>(unit: InfoUnit, header: &WaveHeader<A>) -> Option<u32>
     }
 }
 
-// Writes what the file of this outline says, in lines of a form. What is as it is need not be made in memory.
+// Writes what the file of this outline says, in lines of a form. What is as it is need not be made
+// in memory.
 fn put_lines<A: Allocator + Clone, W: Write>(
     alloc: A,
     lines: TextOptions,
@@ -123,13 +125,13 @@ impl<A: Allocator + Clone> Command<A, WaveHeader<A>> for Info {
     }
 }
 
-/// Writes what the wave file of the one input says of itself: the text of `write_info`, in a form. The samples
-/// are not kept, so the memory is that of the file without them.
+/// Writes what the wave file of the one input says of itself: the text of `write_info`, in a form.
+/// The samples are not kept, so the memory is that of the file without them.
 ///
-/// Errors, in this order: `Read` (45) with index 0 where the input's latch has failed; `Source` (26 to 32)
-/// with index 0 where the file is no wave file; `Write` (37) where the output's latch has failed, which
-/// then holds a prefix of the text; `Memory` (0) where an allocation failed. Nothing is written before the
-/// file has been read to its end.
+/// Errors, in this order: `Read` (45) with index 0 where the input's latch has failed; `Source` (26
+/// to 32) with index 0 where the file is no wave file; `Write` (37) where the output's latch has
+/// failed, which then holds a prefix of the text; `Memory` (0) where an allocation failed. Nothing
+/// is written before the file has been read to its end.
 pub fn info_file<A: Allocator + Clone, R: Read, W: Write>(
     alloc: A,
     form: InfoForm,
@@ -137,7 +139,8 @@ pub fn info_file<A: Allocator + Clone, R: Read, W: Write>(
     output: &mut Latch<W>,
 ) -> Result<(), CliFault>
     requires one { length inputs.old ≡ 1 }
-    ensures { Ran R.remaining (GaveBytes R.remaining) (BytesCause R.remaining) (InformsBy form) W.contents
+    ensures { Ran R.remaining (GaveBytes R.remaining) (BytesCause R.remaining) (InformsBy form)
+        W.contents
         (lent inputs.old output.old) (lent inputs.new output.new) result }
 {
     run(&OneWaveHeader, &Info { form }, alloc, inputs, output)

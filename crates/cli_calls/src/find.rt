@@ -7,7 +7,8 @@ ghost use Rattle.text_check.specs.Files.{is_same};
 ghost use Rattle.text_check.specs.Played.{all_clips};
 ghost use Rattle.mt_stamp.specs.Texts.{stamp_text};
 ghost use Rattle.mt_sessionview.specs.SessionText.{newline};
-ghost use Rattle.cli_calls.specs.Finding.{tracks_titled, markers_titled, clips_playing, found, stamp_lines, answer, Finding};
+ghost use Rattle.cli_calls.specs.Finding.{tracks_titled, markers_titled, clips_playing, found};
+ghost use Rattle.cli_calls.specs.Finding.{stamp_lines, answer, Finding};
 ghost use Rattle.cli_calls.specs.Reading.{GaveOne, OneCause};
 ghost use Rattle.cli_calls.specs.Running.{lent, Ran};
 ghost use Rattle.cli_calls.specs.Writing.{Wrote};
@@ -55,7 +56,8 @@ fn push_where<A: Allocator>(
     stamp: Stamp,
     stamps: &mut Vec<Stamp, A>,
 ) -> Result<(), AllocError>
-    ensures { OnOk result (stamps.new.items ≡ stamps.old.items ++ (if is_found then stamp ∷ [] else [])) }
+    ensures { OnOk result (stamps.new.items ≡ stamps.old.items
+        ++ (if is_found then stamp ∷ [] else [])) }
 {
     if !is_found {
         return Ok(());
@@ -140,7 +142,8 @@ fn found<A: Allocator, B: Allocator>(
 
 // Writes a stamp and a line feed.
 fn append_line<A: Allocator>(text: &mut String<A>, stamp: Stamp) -> Result<(), AllocError>
-    ensures { OnOk result (string_bytes text.new ≡ string_bytes text.old ++ (stamp_text stamp ++ newline ∷ [])) }
+    ensures { OnOk result (string_bytes text.new ≡ string_bytes text.old
+        ++ (stamp_text stamp ++ newline ∷ [])) }
 {
     stamp.append_text(text)?;
     text.push_str("\n")
@@ -199,14 +202,15 @@ impl<A: Allocator + Clone> Command<A, Log<A>> for Find<'_, '_> {
     }
 }
 
-/// Writes the stamps of the items of the session of the log of the one input that have what is looked for, a
-/// line each in the session's order: of tracks and markers those whose title is exactly that text, of clips
-/// those of all tracks that play that recording. Where `one` is asked, it has to be exactly one item.
+/// Writes the stamps of the items of the session of the log of the one input that have what is
+/// looked for, a line each in the session's order: of tracks and markers those whose title is
+/// exactly that text, of clips those of all tracks that play that recording. Where `one` is asked,
+/// it has to be exactly one item.
 ///
-/// Errors, in this order: `Read` (45) where the input's latch has failed, or `Log` (11 to 16, 52) where its
-/// bytes are no log, each with index 0; `NoSuchItem` (21) with how many items there are, where one is asked
-/// and it is another number; `Write` (37) where the output's latch has failed, which then holds a prefix of
-/// the text; `Memory` (0) where an allocation failed.
+/// Errors, in this order: `Read` (45) where the input's latch has failed, or `Log` (11 to 16, 52)
+/// where its bytes are no log, each with index 0; `NoSuchItem` (21) with how many items there are,
+/// where one is asked and it is another number; `Write` (37) where the output's latch has failed,
+/// which then holds a prefix of the text; `Memory` (0) where an allocation failed.
 pub fn find_items<A: Allocator + Clone, R: Read, W: Write>(
     alloc: A,
     one: bool,
@@ -215,7 +219,8 @@ pub fn find_items<A: Allocator + Clone, R: Read, W: Write>(
     output: &mut Latch<W>,
 ) -> Result<(), CliFault>
     requires one_input { length inputs.old ≡ 1 }
-    ensures { Ran R.remaining (GaveOne R.remaining) (OneCause R.remaining) (Finding one wanted.now) W.contents
+    ensures { Ran R.remaining (GaveOne R.remaining) (OneCause R.remaining) (Finding one wanted.now)
+        W.contents
         (lent inputs.old output.old) (lent inputs.new output.new) result }
 {
     run(&OneLog, &Find { one, wanted }, alloc, inputs, output)

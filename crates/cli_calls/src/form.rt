@@ -13,10 +13,12 @@ use std::alloc::{AllocError, Allocator, Global};
 use std::io::Write;
 use text_json::{json_text, timed_text};
 
-/// The form in which the lines of a text are printed: as they are, or changed in one or both of two ways.
+/// The form in which the lines of a text are printed: as they are, or changed in one or both of two
+/// ways.
 #[derive(Clone, Copy)]
 pub struct TextOptions {
-    /// Positions and lengths as times, at so many frames a second, of which 0 counts as 1; else in frames.
+    /// Positions and lengths as times, at so many frames a second, of which 0 counts as 1; else in
+    /// frames.
     pub rate: Option<u32>,
     /// A JSON object for each line, which is made in this memory.
     pub json: Option<Global>,

@@ -47,13 +47,13 @@ impl<A: Allocator + Clone> Command<A, Log<A>> for Have {
     }
 }
 
-/// Writes which operations the log of the one input has, and nothing else: a frame with the Have of its
-/// summary.
+/// Writes which operations the log of the one input has, and nothing else: a frame with the Have of
+/// its summary.
 ///
-/// Errors, in this order: `Read` (45) where the input's latch has failed, or `Log` (11 to 16, 52) where its
-/// bytes are no log, each with index 0; `Message` (40) where the Have does not fit a frame; `Write` (37)
-/// where the output's latch has failed, which then holds a prefix of the frame; `Memory` (0) where an
-/// allocation failed.
+/// Errors, in this order: `Read` (45) where the input's latch has failed, or `Log` (11 to 16, 52)
+/// where its bytes are no log, each with index 0; `Message` (40) where the Have does not fit a
+/// frame; `Write` (37) where the output's latch has failed, which then holds a prefix of the frame;
+/// `Memory` (0) where an allocation failed.
 pub fn have_log<A: Allocator + Clone, R: Read, W: Write>(
     alloc: A,
     inputs: &mut [Latch<R>],

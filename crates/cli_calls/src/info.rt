@@ -8,7 +8,9 @@ ghost use Rattle.mt_bwfread.specs.Cues.{cues_of, cue_text};
 ghost use Rattle.mt_bwfread.specs.Extension.{extension};
 ghost use Rattle.base_io.specs.Buffered.{Puts};
 ghost use Rattle.mt_op.specs.Digest.{digest_text};
-ghost use Rattle.cli_calls.specs.Info.{told_text, line, shown_byte, shown, sound_lines, extension_lines, length_text, label_text, cue_line, Informs, WaveHeaderInforms};
+ghost use Rattle.cli_calls.specs.Info.{told_text, line, shown_byte, shown, sound_lines};
+ghost use Rattle.cli_calls.specs.Info.{extension_lines, length_text, label_text, cue_line, Informs};
+ghost use Rattle.cli_calls.specs.Info.{WaveHeaderInforms};
 ghost use Rattle.cli_calls.specs.Writing.{Exactly, Wrote};
 
 use crate::fault::CliFault;
@@ -87,7 +89,8 @@ fn put_sound<W: Write>(output: &mut BufferedLatch<'_, W>, wave: &Wave<'_>, frame
 
 // Puts the lines of the broadcast extension.
 fn put_extension<W: Write>(output: &mut BufferedLatch<'_, W>, bext: Option<Bext<'_>>)
-    ensures { Puts W.contents output.old output.new (extension_lines (option_map extension bext.entry)) }
+    ensures { Puts W.contents output.old output.new (extension_lines
+        (option_map extension bext.entry)) }
 {
     let Some(bext) = bext else {
         output.put(b"bext none\n");
@@ -141,26 +144,29 @@ fn put_cue<W: Write>(output: &mut BufferedLatch<'_, W>, cue: &Cue<'_>)
 // Puts the lines of cues, in order.
 #[tactic(auto, using(base_io::proofs::Putting::puts_none))]
 fn put_cues<W: Write>(output: &mut BufferedLatch<'_, W>, cues: &[Cue<'_>])
-    ensures { Puts W.contents output.old output.new (flat_map (λ c. cue_line (cue_text c)) cues.now) }
+    ensures { Puts W.contents output.old output.new (flat_map (λ c. cue_line (cue_text c)) cues.now)
+        }
 {
     for cue in cues {
         put_cue(output, cue);
     }
 }
 
-/// Writes what a wave file says of itself, a line each: `digest` (its SHA-256), `rate` (frames a second), `channels`,
-/// `bits` (of a sample), `frames`; then `bext none`, or `bext` with the version of the broadcast extension and its
-/// `description`, `originator`, `reference`, `date`, `time`, `time-reference` (frames from midnight to the first) and
-/// `history`; then `cue NAME at FRAME` for each cue point, and on its line ` len FRAMES` where it has a length, and then
-/// ` label TEXT` where it has a label. In a file's text each byte from 0x20 to 0x7E but the backslash stands for itself,
-/// and every other byte is `\x` and two hex digits.
+/// Writes what a wave file says of itself, a line each: `digest` (its SHA-256), `rate` (frames a
+/// second), `channels`, `bits` (of a sample), `frames`; then `bext none`, or `bext` with the
+/// version of the broadcast extension and its `description`, `originator`, `reference`, `date`,
+/// `time`, `time-reference` (frames from midnight to the first) and `history`; then `cue NAME at
+/// FRAME` for each cue point, and on its line ` len FRAMES` where it has a length, and then ` label
+/// TEXT` where it has a label. In a file's text each byte from 0x20 to 0x7E but the backslash
+/// stands for itself, and every other byte is `\x` and two hex digits.
 ///
-/// Refused as `Source` (26 to 32) with place 0 where the bytes are no wave file, by the first of its faults, and as
-/// `Memory` (0) where an allocation failed, each with nothing written; as `Write` (37) where the output's latch has
-/// failed, which then holds a prefix of the text.
+/// Refused as `Source` (26 to 32) with place 0 where the bytes are no wave file, by the first of
+/// its faults, and as `Memory` (0) where an allocation failed, each with nothing written; as
+/// `Write` (37) where the output's latch has failed, which then holds a prefix of the text.
 ///
-/// The time is that of hashing the bytes, of a walk each over the chunks for the lengths and the labels, and of the
-/// text: a label stands in it once for each cue point of its name. The memory is that of the list of the cues.
+/// The time is that of hashing the bytes, of a walk each over the chunks for the lengths and the
+/// labels, and of the text: a label stands in it once for each cue point of its name. The memory is
+/// that of the list of the cues.
 pub fn write_info<A: Allocator + Clone, W: Write>(
     alloc: A,
     bytes: &[u8],
@@ -174,8 +180,8 @@ pub fn write_info<A: Allocator + Clone, W: Write>(
     }
 }
 
-/// Writes the same of a wave file by its outline, and is refused as for the file. The time is that of the text and of the walks over the chunks of the
-/// outline, which has been hashed.
+/// Writes the same of a wave file by its outline, and is refused as for the file. The time is that
+/// of the text and of the walks over the chunks of the outline, which has been hashed.
 pub fn write_header<A: Allocator + Clone, W: Write>(
     alloc: A,
     header: &WaveHeader<A>,
@@ -199,7 +205,8 @@ fn write_told<A: Allocator + Clone, W: Write>(
     frames: u64,
     output: &mut Latch<W>,
 ) -> Result<(), CliFault>
-    ensures { Wrote W.contents (Exactly (told_text (digest_text digest) wave.now frames)) output.old output.new result }
+    ensures { Wrote W.contents (Exactly (told_text (digest_text digest) wave.now frames)) output.old
+        output.new result }
 {
     let cues = cues_in(alloc.clone()?, wave)?;
     let Ok(digits) = digest.text(alloc) else {
@@ -218,7 +225,8 @@ fn write_lines<W: Write>(
     output: &mut Latch<W>,
 ) -> Result<(), CliFault>
     requires cues { map cue_text cues.now ≡ cues_of wave.now }
-    ensures { Wrote W.contents (Exactly (told_text digits.now wave.now frames)) output.old output.new result }
+    ensures { Wrote W.contents (Exactly (told_text digits.now wave.now frames)) output.old
+        output.new result }
 {
     let mut lines = BufferedLatch::new(output);
     put_lines(&mut lines, digits, wave, frames, cues);

@@ -36,21 +36,23 @@ impl<A: Allocator + Clone> Command<A, LogAndBytes<A>> for Lack {
     }
 }
 
-/// Writes the operations of the first input's log that the summary does not cover which the second input
-/// gives, as frames of Ops and Bye, and nothing else.
+/// Writes the operations of the first input's log that the summary does not cover which the second
+/// input gives, as frames of Ops and Bye, and nothing else.
 ///
-/// Errors, in this order: `Read` (45) with index 0 where the first latch has failed, or `Log` (11 to 16, 52)
-/// with index 0 where its bytes are no log, and the second input was not asked then; `Read` with index 1
-/// where the second latch has failed; `Message` where the length at the front of the second input's bytes
-/// is too great (40), or they are not one frame with a Have (38); `Write` (37) where the output's latch has
-/// failed, which then holds a prefix of the bytes; `Memory` (0) where an allocation failed.
+/// Errors, in this order: `Read` (45) with index 0 where the first latch has failed, or `Log` (11
+/// to 16, 52) with index 0 where its bytes are no log, and the second input was not asked then;
+/// `Read` with index 1 where the second latch has failed; `Message` where the length at the front
+/// of the second input's bytes is too great (40), or they are not one frame with a Have (38);
+/// `Write` (37) where the output's latch has failed, which then holds a prefix of the bytes;
+/// `Memory` (0) where an allocation failed.
 pub fn lack_log<A: Allocator + Clone, R: Read, W: Write>(
     alloc: A,
     inputs: &mut [Latch<R>],
     output: &mut Latch<W>,
 ) -> Result<(), CliFault>
     requires two { length inputs.old ≡ 2 }
-    ensures { Ran R.remaining (GaveBoth R.remaining {Z = A}) (BothCause R.remaining) LackMakes W.contents
+    ensures { Ran R.remaining (GaveBoth R.remaining {Z = A}) (BothCause R.remaining) LackMakes
+        W.contents
         (lent inputs.old output.old) (lent inputs.new output.new) result }
 {
     run(&LogThenBytes, &Lack, alloc, inputs, output)

@@ -2,7 +2,8 @@
 
 ghost use Rattle.std.specs.Prelude.{◌≡◌, ◌++◌, ◌<◌, ◌^◌, None, Ok, IfOk, IfErr, OnOk};
 ghost use Rattle.std.specs.String.{string_bytes};
-ghost use Rattle.cli_calls.specs.Laying.{clip_words, clip_line, lay_fault, laid, NotLaid, Lays, GaveSounds, HasWaveCause};
+ghost use Rattle.cli_calls.specs.Laying.{clip_words, clip_line, lay_fault, laid, NotLaid, Lays};
+ghost use Rattle.cli_calls.specs.Laying.{GaveSounds, HasWaveCause};
 ghost use Rattle.cli_calls.specs.Running.{lent, Ran};
 
 use crate::command::{Command, Input, run};
@@ -19,7 +20,8 @@ use std::io::{Read, Write};
 /// Where recordings are laid.
 #[derive(Clone, Copy)]
 pub struct Laying<'a> {
-    /// The track, as a script names it: the text of a stamp, or `$` and the number of a line. It stands in the lines as it is.
+    /// The track, as a script names it: the text of a stamp, or `$` and the number of a line. It
+    /// stands in the lines as it is.
     pub track: &'a str,
     /// Where the first begins, in frames.
     pub at: u32,
@@ -119,7 +121,8 @@ fn append_words<A: Allocator + Clone>(
     sound: &Sound,
     text: &mut String<A>,
 ) -> Result<(), AllocError>
-    ensures { OnOk result (string_bytes text.new ≡ string_bytes text.old ++ clip_words track.now at sound.now) }
+    ensures { OnOk result (string_bytes text.new ≡ string_bytes text.old
+        ++ clip_words track.now at sound.now) }
 {
     text.push_str("add-clip")?;
     append_digest(&alloc, text, " ", sound.digest)?;
@@ -137,7 +140,8 @@ fn append_line<A: Allocator + Clone>(
     sound: &Sound,
     text: &mut String<A>,
 ) -> Result<(), AllocError>
-    ensures { OnOk result (string_bytes text.new ≡ string_bytes text.old ++ clip_line track.now at sound.now) }
+    ensures { OnOk result (string_bytes text.new ≡ string_bytes text.old
+        ++ clip_line track.now at sound.now) }
 {
     append_words(alloc, track, at, sound, text)?;
     text.push_str("\n")
@@ -189,22 +193,24 @@ impl<A: Allocator + Clone> Command<A, Vec<Sound, A>> for Lay<'_, '_> {
     }
 }
 
-/// Writes lines of a script that lay the recordings of the inputs on a track, from left to right: for each
-/// `add-clip DIGEST TRACK AT 0 FRAMES`, a clip of the whole recording, of which the first stands where
-/// `laying` says, and each other where the one before it ends and the gap is over. The memory is that of the
-/// greatest outline, and of the lines.
+/// Writes lines of a script that lay the recordings of the inputs on a track, from left to right:
+/// for each `add-clip DIGEST TRACK AT 0 FRAMES`, a clip of the whole recording, of which the first
+/// stands where `laying` says, and each other where the one before it ends and the gap is over. The
+/// memory is that of the greatest outline, and of the lines.
 ///
-/// Errors, in this order: `Read` (45) with the index of an input whose latch has failed, or `Source` (26 to
-/// 32) with the index of one that is no wave file, from left to right; `Lay` with the index of the first
-/// recording that has no frame (6), is of another rate (34), or begins after frame 4,294,967,295 (35);
-/// `Write` (37) where the output's latch has failed, which then holds a prefix of the text; `Memory` (0).
+/// Errors, in this order: `Read` (45) with the index of an input whose latch has failed, or
+/// `Source` (26 to 32) with the index of one that is no wave file, from left to right; `Lay` with
+/// the index of the first recording that has no frame (6), is of another rate (34), or begins after
+/// frame 4,294,967,295 (35); `Write` (37) where the output's latch has failed, which then holds a
+/// prefix of the text; `Memory` (0).
 pub fn lay_files<A: Allocator + Clone, R: Read, W: Write>(
     alloc: A,
     laying: &Laying<'_>,
     inputs: &mut [Latch<R>],
     output: &mut Latch<W>,
 ) -> Result<(), CliFault>
-    ensures { Ran R.remaining (GaveSounds R.remaining {Z = A}) (HasWaveCause R.remaining) (Lays laying.now) W.contents
+    ensures { Ran R.remaining (GaveSounds R.remaining {Z = A}) (HasWaveCause R.remaining)
+        (Lays laying.now) W.contents
         (lent inputs.old output.old) (lent inputs.new output.new) result }
 {
     run(&Sounds, &Lay { laying }, alloc, inputs, output)

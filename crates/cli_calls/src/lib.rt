@@ -1,7 +1,8 @@
 //! The work of the commands of `radio`, over any readers and writers, of which each is in a latch.
 //!
-//! Each call reads its inputs, makes bytes of what they gave, or refuses, and writes these bytes. What it
-//! promises is one clause, a record with a sentence for each promise (`specs/Running.antt`).
+//! Each call reads its inputs, makes bytes of what they gave, or refuses, and writes these bytes.
+//! What it promises is one clause, a record with a sentence for each promise
+//! (`specs/Running.antt`).
 //!
 //! ```rust
 //! use cli_calls::{merge_logs, view_logs};

@@ -38,15 +38,16 @@ impl<A: Allocator + Clone> Command<A, Log<A>> for Listing {
     }
 }
 
-/// Writes the operations of the union of the inputs' logs, a line each by rising stamp, in a form of lines:
-/// the text of `text_log`. Fails as `view_logs`.
+/// Writes the operations of the union of the inputs' logs, a line each by rising stamp, in a form
+/// of lines: the text of `text_log`. Fails as `view_logs`.
 pub fn list_logs<A: Allocator + Clone, R: Read, W: Write>(
     alloc: A,
     form: TextOptions,
     inputs: &mut [Latch<R>],
     output: &mut Latch<W>,
 ) -> Result<(), CliFault>
-    ensures { Ran R.remaining (GaveUnion R.remaining) (UnionFails R.remaining) (Prints (list_in form)) W.contents
+    ensures { Ran R.remaining (GaveUnion R.remaining) (UnionFails R.remaining)
+        (Prints (list_in form)) W.contents
         (lent inputs.old output.old) (lent inputs.new output.new) result }
 {
     run(&UnionOfLogs, &Listing { form }, alloc, inputs, output)

@@ -33,14 +33,15 @@ impl<A: Allocator + Clone> Command<A, Log<A>> for Merge {
     }
 }
 
-/// Writes the log of the union of the inputs' logs, and nothing else; of no input, the log of no operation.
-/// Fails as `view_logs`.
+/// Writes the log of the union of the inputs' logs, and nothing else; of no input, the log of no
+/// operation. Fails as `view_logs`.
 pub fn merge_logs<A: Allocator + Clone, R: Read, W: Write>(
     alloc: A,
     inputs: &mut [Latch<R>],
     output: &mut Latch<W>,
 ) -> Result<(), CliFault>
-    ensures { Ran R.remaining (GaveUnion R.remaining) (UnionFails R.remaining) (Prints text_of) W.contents
+    ensures { Ran R.remaining (GaveUnion R.remaining) (UnionFails R.remaining) (Prints text_of)
+        W.contents
         (lent inputs.old output.old) (lent inputs.new output.new) result }
 {
     run(&UnionOfLogs, &Merge, alloc, inputs, output)

@@ -5,7 +5,8 @@ ghost use Rattle.std.specs.List.{zip};
 ghost use Rattle.std.specs.String.{string_bytes};
 ghost use Rattle.mt_opcodec.specs.Union.{Agree, AllAgree, union, union_all};
 ghost use Rattle.cli_calls.specs.Joining.{AllFail, JoinFails};
-ghost use Rattle.cli_calls.specs.Pulling.{shares, share_line, share_lines, told_text, Pulls, GaveAll};
+ghost use Rattle.cli_calls.specs.Pulling.{shares, share_line, share_lines, told_text, Pulls};
+ghost use Rattle.cli_calls.specs.Pulling.{GaveAll};
 ghost use Rattle.cli_calls.specs.Reading.{HasCause};
 ghost use Rattle.cli_calls.specs.Running.{lent, RanAndPrinted};
 ghost use Rattle.cli_calls.specs.Writing.{outputs};
@@ -75,7 +76,8 @@ fn append_share<A: Allocator>(
     name: &str,
     share: PullCounts,
 ) -> Result<(), AllocError>
-    ensures { OnOk result (string_bytes text.new ≡ string_bytes text.old ++ share_line (name.now, share)) }
+    ensures { OnOk result (string_bytes text.new ≡ string_bytes text.old
+        ++ share_line (name.now, share)) }
 {
     append_word(text, "from ", name)?;
     append_number(text, " new ", share.new as u64)?;
@@ -128,7 +130,8 @@ fn shares_text<A: Allocator>(
     shares: &[PullCounts],
     count: usize,
 ) -> Result<String<A>, AllocError>
-    ensures { IfOk result (λ text. string_bytes text ≡ told_text (map (λ n. n.now) names.now) shares.now count) }
+    ensures { IfOk result (λ text. string_bytes text ≡ told_text (map (λ n. n.now) names.now)
+        shares.now count) }
 {
     let mut text = String::new(alloc);
     append_shares(&mut text, names, behind_first(shares))?;
@@ -161,14 +164,16 @@ impl<A: Allocator + Clone> Printing<A, Vec<Log<A>, A>> for Pull<'_> {
     }
 }
 
-/// Writes the log of the union of the inputs' logs into `output`, as `merge_logs` does, and then into
-/// `printed` what each input after the first adds to those before it: a line `from NAME new N shared N`
-/// under its name, of the operations that those before it lack, and of those that they have too; and last
-/// the line `ops N`, of all operations of the union. `names` are those of the inputs after the first.
+/// Writes the log of the union of the inputs' logs into `output`, as `merge_logs` does, and then
+/// into `printed` what each input after the first adds to those before it: a line `from NAME new N
+/// shared N` under its name, of the operations that those before it lack, and of those that they
+/// have too; and last the line `ops N`, of all operations of the union. `names` are those of the
+/// inputs after the first.
 ///
-/// Errors, in this order: as `view_logs` up to `Merge`; `Write` (37) where the latch of `output` has failed,
-/// which then holds a prefix of the log's text, and nothing was printed; `Print` (37) where that of `printed`
-/// has failed, which then holds a prefix of the lines; `Memory` (0) where an allocation failed.
+/// Errors, in this order: as `view_logs` up to `Merge`; `Write` (37) where the latch of `output`
+/// has failed, which then holds a prefix of the log's text, and nothing was printed; `Print` (37)
+/// where that of `printed` has failed, which then holds a prefix of the lines; `Memory` (0) where
+/// an allocation failed.
 pub fn pull_logs<A: Allocator + Clone, R: Read, W: Write, T: Write>(
     alloc: A,
     names: &[&str],

@@ -6,7 +6,8 @@ ghost use Rattle.mt_opcodec.specs.declared.fault.LogFault.TheVariants as log;
 ghost use Rattle.wave_header.specs.WaveHeader.{Gives};
 ghost use Rattle.cli_calls.specs.declared.fault.CliFault.{CliFault as Fault};
 ghost use Rattle.cli_calls.specs.declared.fault.CliFault.TheVariants.{Memory};
-ghost use Rattle.cli_calls.specs.Reading.{Gave, GaveDigest, GaveEach, GaveLog, IsRead, IsRest, AreRead, IsReadCause, IsCause, FirstCause};
+ghost use Rattle.cli_calls.specs.Reading.{Gave, GaveDigest, GaveEach, GaveLog, IsRead, IsRest};
+ghost use Rattle.cli_calls.specs.Reading.{AreRead, IsReadCause, IsCause, FirstCause};
 
 use crate::fault::CliFault;
 use crate::laws::log_in_memory;
@@ -139,7 +140,8 @@ pub(crate) trait OneInput<A: Allocator> {
 
     ghost gives: { Self → (R : Type 0) → (R → Option (List ℕ)) → Latch R → Self.Value → Type 0 };
 
-    ghost cause: { Self → (R : Type 0) → (R → Option (List ℕ)) → ℕ → Latch R → Latch R → Fault → Type 0 };
+    ghost cause: { Self → (R : Type 0) → (R → Option (List ℕ)) → ℕ → Latch R → Latch R → Fault
+        → Type 0 };
 
     /// Reads the input of this index.
     fn read_one<R: Read>(
@@ -169,7 +171,8 @@ pub(crate) fn read_each<A: Allocator + Clone, I: OneInput<A>, R: Read>(
 where
     I::Value: Drop,
     ensures read { OnOk result (AreRead R.remaining inputs.new) }
-    ensures ok { IfOk result (λ values. GaveEach (I.gives one.now R R.remaining) inputs.old values.items) }
+    ensures ok { IfOk result (λ values. GaveEach (I.gives one.now R R.remaining) inputs.old
+        values.items) }
     ensures err { IfErr result (FirstCause (IsRead R.remaining) (I.gives one.now R R.remaining)
         (I.cause one.now R R.remaining) 0 inputs.old inputs.new) }
 {

@@ -2,7 +2,8 @@
 
 ghost use Rattle.std.specs.Prelude.{◌≡◌, ◌≢◌, IfErr, IfOk, OnOk};
 ghost use Rattle.mt_render.specs.declared.fault.MixFault.TheVariants as mix;
-ghost use Rattle.cli_calls.specs.Bouncing.{render_inputs, Renders, RendersLogs, GaveLogsAndWaves, GaveMaterial, RenderCause, AreInputsRead};
+ghost use Rattle.cli_calls.specs.Bouncing.{render_inputs, Renders, RendersLogs, GaveLogsAndWaves};
+ghost use Rattle.cli_calls.specs.Bouncing.{GaveMaterial, RenderCause, AreInputsRead};
 ghost use Rattle.cli_calls.specs.Faults.{file_fault};
 ghost use Rattle.cli_calls.specs.Running.{lent, RanOn};
 ghost use Rattle.cli_calls.specs.Writing.{Wrote};
@@ -50,7 +51,8 @@ fn put_session<A: Allocator + Clone, W: Write>(
     format: Format,
     output: &mut Latch<W>,
 ) -> Result<(), CliFault>
-    ensures { Wrote W.contents (Renders format head.now session.now kept.now) output.old output.new result }
+    ensures { Wrote W.contents (Renders format head.now session.now kept.now) output.old output.new
+        result }
 {
     let catalogue = catalogue_of(alloc.clone()?, kept)?;
     let mix = match Mix::new(alloc.clone()?, session, &catalogue, format) {
@@ -63,7 +65,8 @@ fn put_session<A: Allocator + Clone, W: Write>(
     }
 }
 
-// What is read before a file is rendered: a session, and the recordings that its audible clips play.
+// What is read before a file is rendered: a session, and the recordings that its audible clips
+// play.
 #[derive(Drop)]
 struct Material<A: Allocator> {
     session: Session<A>,
@@ -94,15 +97,16 @@ fn read_material<A: Allocator + Clone, R: Read>(
     }
 }
 
-/// Writes the file of the session of the union of the logs' sets, played from the recordings, in a format and
-/// with a head, and nothing else. Of several recordings under one digest the first is played. The memory is
-/// that of the logs, and then of the session, of the recordings that are played, and of eight others.
+/// Writes the file of the session of the union of the logs' sets, played from the recordings, in a
+/// format and with a head, and nothing else. Of several recordings under one digest the first is
+/// played. The memory is that of the logs, and then of the session, of the recordings that are
+/// played, and of eight others.
 ///
-/// Errors, in this order: as `view_logs` up to `Merge`; `Read` (45) with the index of a recording's input,
-/// counted behind the logs, or `Source` (26 to 32) with the index of a recording that is no wave file,
-/// counted from 0, from left to right; `Mix` where the programme cannot be mixed or its file is too long (33
-/// to 35); `Write` (37) where the output's latch has failed, which then holds a prefix of the file;
-/// `Memory` (0) where an allocation failed.
+/// Errors, in this order: as `view_logs` up to `Merge`; `Read` (45) with the index of a recording's
+/// input, counted behind the logs, or `Source` (26 to 32) with the index of a recording that is no
+/// wave file, counted from 0, from left to right; `Mix` where the programme cannot be mixed or its
+/// file is too long (33 to 35); `Write` (37) where the output's latch has failed, which then holds
+/// a prefix of the file; `Memory` (0) where an allocation failed.
 pub fn bounce_logs<A: Allocator + Clone, R: Read, W: Write>(
     alloc: A,
     logs: &mut [Latch<R>],
@@ -111,7 +115,8 @@ pub fn bounce_logs<A: Allocator + Clone, R: Read, W: Write>(
     format: Format,
     output: &mut Latch<W>,
 ) -> Result<(), CliFault>
-    ensures { RanOn (GaveLogsAndWaves R.remaining) (RenderCause R.remaining) (AreInputsRead R.remaining)
+    ensures { RanOn (GaveLogsAndWaves R.remaining) (RenderCause R.remaining)
+        (AreInputsRead R.remaining)
         (RendersLogs format head.now) W.contents (lent (render_inputs logs.old sources.old) output.old)
         (lent (render_inputs logs.new sources.new) output.new) result }
 {

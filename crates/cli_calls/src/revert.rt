@@ -41,13 +41,13 @@ impl<A: Allocator + Clone> Command<A, Log<A>> for Revert<'_> {
     }
 }
 
-/// Writes the script that takes the operations of these stamps of the log of the one input back, and nothing
-/// else: the text of `text_revert`.
+/// Writes the script that takes the operations of these stamps of the log of the one input back,
+/// and nothing else: the text of `text_revert`.
 ///
-/// Errors, in this order: `Read` (45) where the input's latch has failed, or `Log` (11 to 16, 52) where its
-/// bytes are no log, each with index 0; `NoSuchItem` (21) with 0 where no operation of the log has one of the
-/// stamps; `Write` (37) where the output's latch has failed, which then holds a prefix of the text; `Memory`
-/// (0) where an allocation failed.
+/// Errors, in this order: `Read` (45) where the input's latch has failed, or `Log` (11 to 16, 52)
+/// where its bytes are no log, each with index 0; `NoSuchItem` (21) with 0 where no operation of
+/// the log has one of the stamps; `Write` (37) where the output's latch has failed, which then
+/// holds a prefix of the text; `Memory` (0) where an allocation failed.
 pub fn revert_log<A: Allocator + Clone, R: Read, W: Write>(
     alloc: A,
     stamps: &[Stamp],
@@ -55,7 +55,8 @@ pub fn revert_log<A: Allocator + Clone, R: Read, W: Write>(
     output: &mut Latch<W>,
 ) -> Result<(), CliFault>
     requires one { length inputs.old ≡ 1 }
-    ensures { Ran R.remaining (GaveOne R.remaining) (OneCause R.remaining) (Reverting stamps.now) W.contents
+    ensures { Ran R.remaining (GaveOne R.remaining) (OneCause R.remaining) (Reverting stamps.now)
+        W.contents
         (lent inputs.old output.old) (lent inputs.new output.new) result }
 {
     run(&OneLog, &Revert { stamps }, alloc, inputs, output)

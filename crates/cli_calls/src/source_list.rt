@@ -25,7 +25,8 @@ use wave_header::WaveHeader;
 
 // What the file of this outline is.
 fn recording_of<A: Allocator>(header: &WaveHeader<A>) -> Result<Recording, WaveFault>
-    ensures { (text : List ℕ) → IsWaveHeader text header.now → result ≡ recording_of text (fault_of text) }
+    ensures { (text : List ℕ) → IsWaveHeader text header.now → result
+        ≡ recording_of text (fault_of text) }
 {
     match Wave::read(header.bytes()) {
         Ok(wave) => Ok(Recording {
@@ -112,7 +113,8 @@ fn given_files<'n, A: Allocator>(
     names: &[&'n str],
     recordings: &[Result<Recording, WaveFault>],
 ) -> Result<Vec<Given<'n>, A>, AllocError>
-    ensures { IfOk result (λ files. files.items ≡ given_files (map (λ n. n.now) names.now) recordings.now) }
+    ensures { IfOk result (λ files. files.items ≡ given_files (map (λ n. n.now) names.now)
+        recordings.now) }
 {
     let count = count_pairs(names, recordings);
     let mut files = Vec::with_capacity(alloc, count)?;
@@ -137,7 +139,8 @@ impl<A: Allocator + Clone> Command<A, Listed<A>> for SourceList<'_> {
     ghost use Rattle.cli_calls.specs.SourcesListing.{sources_in};
     ghost use Rattle.cli_calls.specs.Writing.{Prints};
 
-    ghost makes = { λ list. Prints (sources_in list.form list.which (map (λ n. n.now) list.names.now)) };
+    ghost makes = { λ list. Prints (sources_in list.form list.which
+        (map (λ n. n.now) list.names.now)) };
 
     fn write_value<W: Write>(
         &self,
@@ -154,15 +157,16 @@ impl<A: Allocator + Clone> Command<A, Listed<A>> for SourceList<'_> {
     }
 }
 
-/// Writes which recordings the clips of the session of the log of the first input name, and which of the
-/// files of the others these are, in one of the ways of `text_check` and in a form of lines. `names` are
-/// those of the files, as they are printed, one for each. The memory is that of the log, of its session and
-/// of the outline of one file at a time.
+/// Writes which recordings the clips of the session of the log of the first input name, and which
+/// of the files of the others these are, in one of the ways of `text_check` and in a form of lines.
+/// `names` are those of the files, as they are printed, one for each. The memory is that of the
+/// log, of its session and of the outline of one file at a time.
 ///
-/// Errors, in this order: `Read` (45) with index 0 where the first latch has failed, or `Log` (11 to 16, 52)
-/// with index 0 where its bytes are no log; `Read` with the index of another input whose latch has failed;
-/// `Write` (37) where the output's latch has failed, which then holds a prefix of the text; `Memory` (0)
-/// where an allocation failed. A file that is no wave file is printed, and is no error.
+/// Errors, in this order: `Read` (45) with index 0 where the first latch has failed, or `Log` (11
+/// to 16, 52) with index 0 where its bytes are no log; `Read` with the index of another input whose
+/// latch has failed; `Write` (37) where the output's latch has failed, which then holds a prefix of
+/// the text; `Memory` (0) where an allocation failed. A file that is no wave file is printed, and
+/// is no error.
 pub fn list_sources<A: Allocator + Clone, R: Read, W: Write>(
     alloc: A,
     form: TextOptions,
@@ -173,7 +177,8 @@ pub fn list_sources<A: Allocator + Clone, R: Read, W: Write>(
 ) -> Result<(), CliFault>
     requires named { length inputs.old ≡ 1 + length names.now }
     ensures { Ran R.remaining (GaveListed R.remaining {A = A}) (ListedCause R.remaining)
-        (Prints (sources_in form which (map (λ n. n.now) names.now))) W.contents (lent inputs.old output.old)
+        (Prints (sources_in form which (map (λ n. n.now) names.now))) W.contents
+            (lent inputs.old output.old)
         (lent inputs.new output.new) result }
 {
     run(

@@ -1,6 +1,7 @@
 //! Reading recordings.
 
-ghost use Rattle.std.specs.Prelude.{◌≡◌, ◌+◌, ◌++◌, ◌∷◌, [], ◌<◌, ◌≤◌, ◌^◌, length, map, if◌then◌else◌, IfOk, IfErr, OnOk};
+ghost use Rattle.std.specs.Prelude.{◌≡◌, ◌+◌, ◌++◌, ◌∷◌, [], ◌<◌, ◌≤◌, ◌^◌, length, map};
+ghost use Rattle.std.specs.Prelude.{if◌then◌else◌, IfOk, IfErr, OnOk};
 ghost use Rattle.std.specs.List.{AllByRecursion};
 ghost use Rattle.std.specs.Vec.{vec_capacity};
 ghost use Rattle.sha2.specs.Sha256.{sha256};
@@ -9,7 +10,8 @@ ghost use Rattle.mt_op.specs.declared.digest.Digest.{Digest as DigestOf};
 ghost use Rattle.text_check.specs.Using.{plays};
 ghost use Rattle.mt_render.specs.Sources.{found, sources_of};
 ghost use Rattle.cli_calls.specs.Reading.{Gave, IsRead, IsRest, AreRead};
-ghost use Rattle.cli_calls.specs.Sources.{IsSourceCause, HasSourceCause, HoldWanted, GaveKept, GaveWaves, bytes_in};
+ghost use Rattle.cli_calls.specs.Sources.{IsSourceCause, HasSourceCause, HoldWanted, GaveKept};
+ghost use Rattle.cli_calls.specs.Sources.{GaveWaves, bytes_in};
 
 use crate::fault::CliFault;
 use crate::read::read_into;
@@ -23,14 +25,16 @@ use std::io::Read;
 use std::mem;
 use text_check::Audible;
 
-// How many recordings are held until they are hashed together and those that are not audible are let go.
+// How many recordings are held until they are hashed together and those that are not audible are
+// let go.
 const GROUP: usize = 8;
 
-// The greatest room of a recording that is let go, in bytes, into which another one is read: so the memory of a group of short ones is taken once, and
-// that of a long one is given back.
+// The greatest room of a recording that is let go, in bytes, into which another one is read: so the
+// memory of a group of short ones is taken once, and that of a long one is given back.
 const ROOM: usize = 33_554_432;
 
-/// Reads the wave file of the recording of this index, which stands behind so many other inputs, into the room of a vector.
+/// Reads the wave file of the recording of this index, which stands behind so many other inputs,
+/// into the room of a vector.
 pub(crate) fn read_source<A: Allocator, R: Read>(
     room: Vec<u8, A>,
     others: usize,
@@ -39,7 +43,8 @@ pub(crate) fn read_source<A: Allocator, R: Read>(
 ) -> Result<Vec<u8, A>, CliFault>
     requires few { others + index < 2 ^ 64 }
     ensures read { OnOk result (IsRead R.remaining input.new) }
-    ensures ok { IfOk result (λ bytes. Gave R.remaining input.old bytes.items × IsWave bytes.items) }
+    ensures ok { IfOk result (λ bytes. Gave R.remaining input.old bytes.items × IsWave bytes.items)
+        }
     ensures rest { IsRest R.remaining input.old input.new }
     ensures err { IfErr result (IsSourceCause R.remaining others index input.old input.new) }
 {
@@ -77,7 +82,8 @@ fn keep_one<A: Allocator + Clone>(
     kept: &mut Vec<HashedFile<A>, A>,
 ) -> Result<(), AllocError>
     requires hashed { digest.0 ≡ sha256 text.old.items }
-    ensures { OnOk result (kept.new.items ≡ (if plays audible.now.uses digest then kept.old.items ++ text.old.items ∷
+    ensures { OnOk result (kept.new.items ≡ (if plays audible.now.uses digest then kept.old.items
+        ++ text.old.items ∷
         [] else kept.old.items)) }
 {
     if !audible.plays(&digest) {
@@ -98,7 +104,8 @@ fn keep_each<A: Allocator + Clone>(
     kept: &mut Vec<HashedFile<A>, A>,
 ) -> Result<(), AllocError>
     requires digests { digests.now ≡ map sha256 (bytes_in group.old) }
-    ensures { OnOk result (HoldWanted (plays audible.now.uses) kept.new.items (kept.old.items ++ bytes_in group.old)) }
+    ensures { OnOk result (HoldWanted (plays audible.now.uses) kept.new.items
+        (kept.old.items ++ bytes_in group.old)) }
 {
     for index in 0..group.len() {
         let digest = Digest(digests[index]);
@@ -114,7 +121,8 @@ fn make_room<A: Allocator>(
     rooms: &mut Vec<Vec<u8, A>, A>,
 ) -> Result<(), AllocError>
     ensures empty { OnOk result (group.new.items ≡ []) }
-    ensures small { OnOk result (AllByRecursion (λ room. vec_capacity room ≤ 33554432) rooms.new.items) }
+    ensures small { OnOk result (AllByRecursion (λ room. vec_capacity room ≤ 33554432)
+        rooms.new.items) }
 {
     rooms.clear();
     while let Some(text) = group.pop() {
@@ -125,7 +133,8 @@ fn make_room<A: Allocator>(
     Ok(())
 }
 
-// Moves those recordings of a group that are audible behind what is kept, and lets the others go, but for their room.
+// Moves those recordings of a group that are audible behind what is kept, and lets the others go,
+// but for their room.
 fn keep_group<A: Allocator + Clone>(
     alloc: &A,
     audible: &Audible<A>,
@@ -151,7 +160,8 @@ fn keep_whole<A: Allocator + Clone>(
     rooms: &mut Vec<Vec<u8, A>, A>,
     kept: &mut Vec<HashedFile<A>, A>,
 ) -> Result<(), AllocError>
-    ensures { OnOk result (HoldWanted (plays audible.now.uses) (kept.new.items ++ bytes_in group.new.items)
+    ensures { OnOk result (HoldWanted (plays audible.now.uses)
+        (kept.new.items ++ bytes_in group.new.items)
         (kept.old.items ++ bytes_in group.old.items)) }
 {
     if group.len() < GROUP {
@@ -169,8 +179,9 @@ fn next_room<A: Allocator>(alloc: A, rooms: &mut Vec<Vec<u8, A>, A>) -> Vec<u8, 
     }
 }
 
-/// Reads the wave file of each recording, from left to right, and keeps those that are audible, each with its digest. They stand behind so many other
-/// inputs. In memory are at most eight at a time beside those that are kept, or room for eight of at most 32 MiB.
+/// Reads the wave file of each recording, from left to right, and keeps those that are audible,
+/// each with its digest. They stand behind so many other inputs. In memory are at most eight at a
+/// time beside those that are kept, or room for eight of at most 32 MiB.
 pub(crate) fn read_audible<A: Allocator + Clone, R: Read>(
     alloc: A,
     others: usize,
@@ -179,7 +190,8 @@ pub(crate) fn read_audible<A: Allocator + Clone, R: Read>(
 ) -> Result<Vec<HashedFile<A>, A>, CliFault>
     requires few { others + length inputs.old < 2 ^ 64 }
     ensures read { OnOk result (AreRead R.remaining inputs.new) }
-    ensures ok { IfOk result (λ kept. GaveKept R.remaining (plays audible.now.uses) inputs.old kept.items) }
+    ensures ok { IfOk result (λ kept. GaveKept R.remaining (plays audible.now.uses) inputs.old
+        kept.items) }
     ensures err { IfErr result (HasSourceCause R.remaining others 0 inputs.old inputs.new) }
 {
     let mut kept = Vec::new(alloc.clone()?);
@@ -196,7 +208,8 @@ pub(crate) fn read_audible<A: Allocator + Clone, R: Read>(
     Ok(kept)
 }
 
-/// Reads the wave file of each recording, from left to right, and keeps all of them, each with its digest. They stand behind so many other inputs.
+/// Reads the wave file of each recording, from left to right, and keeps all of them, each with its
+/// digest. They stand behind so many other inputs.
 pub fn read_all_sources<A: Allocator + Clone, R: Read>(
     alloc: A,
     others: usize,
@@ -217,7 +230,8 @@ pub fn read_all_sources<A: Allocator + Clone, R: Read>(
     Ok(kept)
 }
 
-/// The recordings under their digests. Each was read as a wave file before, so that only memory refuses it.
+/// The recordings under their digests. Each was read as a wave file before, so that only memory
+/// refuses it.
 pub fn catalogue_of<'a, A: Allocator + Clone>(
     alloc: A,
     kept: &'a [HashedFile<A>],

@@ -71,13 +71,14 @@ impl<A: Allocator + Clone> Command<A, LogAndBytes<A>> for Take {
     }
 }
 
-/// Writes the first input's log with the operations that the second input gives, frames of Ops up to Bye,
-/// and nothing else. What is there already is not taken again. `frames` is where the bytes of a frame that
-/// is not whole are kept.
+/// Writes the first input's log with the operations that the second input gives, frames of Ops up
+/// to Bye, and nothing else. What is there already is not taken again. `frames` is where the bytes
+/// of a frame that is not whole are kept.
 ///
-/// Errors, in this order: as `lack_log` while reading; `Sync` where the second input's bytes are not taken,
-/// as `take_ops` refuses them (40, 38, 39, 17 or 49); `Write` (37) where the output's latch has failed, which
-/// then holds a prefix of the log's text; `Memory` (0) where an allocation failed.
+/// Errors, in this order: as `lack_log` while reading; `Sync` where the second input's bytes are
+/// not taken, as `take_ops` refuses them (40, 38, 39, 17 or 49); `Write` (37) where the output's
+/// latch has failed, which then holds a prefix of the log's text; `Memory` (0) where an allocation
+/// failed.
 pub fn take_log<A: Allocator + Clone, R: Read, W: Write>(
     alloc: A,
     frames: Global,
@@ -85,7 +86,8 @@ pub fn take_log<A: Allocator + Clone, R: Read, W: Write>(
     output: &mut Latch<W>,
 ) -> Result<(), CliFault>
     requires two { length inputs.old ≡ 2 }
-    ensures { Ran R.remaining (GaveBoth R.remaining {Z = A}) (BothCause R.remaining) TakeMakes W.contents
+    ensures { Ran R.remaining (GaveBoth R.remaining {Z = A}) (BothCause R.remaining) TakeMakes
+        W.contents
         (lent inputs.old output.old) (lent inputs.new output.new) result }
 {
     run(&LogThenBytes, &Take { frames }, alloc, inputs, output)

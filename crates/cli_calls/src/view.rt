@@ -38,7 +38,8 @@ fn put_session_in<A: Allocator + Clone, W: Write>(
     session: &Session<A>,
     output: &mut Latch<W>,
 ) -> Result<(), CliFault>
-    ensures { Wrote W.contents (Exactly (in_form form (session_text session.now))) output.old output.new result }
+    ensures { Wrote W.contents (Exactly (in_form form (session_text session.now))) output.old
+        output.new result }
 {
     if form.is_plain() {
         return put_session(session, output);
@@ -75,17 +76,19 @@ impl<A: Allocator + Clone> Command<A, Log<A>> for View {
 
 /// Writes the text of the session of the union of the inputs' logs, and nothing else.
 ///
-/// Errors, in this order: `Read` (45) with the index of an input whose latch has failed, or `Log` (11 to
-/// 16, 52) with the index of one whose bytes are no log, from left to right; `Merge` (17) where a log has
-/// another operation under a dot than the logs before it, with the least such dot of the first such log;
-/// `Write` (37) where the output's latch has failed, which then holds a prefix of the text; `Memory` (0)
-/// where an allocation failed. Each input is read to its end, but for those after one at fault.
+/// Errors, in this order: `Read` (45) with the index of an input whose latch has failed, or `Log`
+/// (11 to 16, 52) with the index of one whose bytes are no log, from left to right; `Merge` (17)
+/// where a log has another operation under a dot than the logs before it, with the least such dot
+/// of the first such log; `Write` (37) where the output's latch has failed, which then holds a
+/// prefix of the text; `Memory` (0) where an allocation failed. Each input is read to its end, but
+/// for those after one at fault.
 pub fn view_logs<A: Allocator + Clone, R: Read, W: Write>(
     alloc: A,
     inputs: &mut [Latch<R>],
     output: &mut Latch<W>,
 ) -> Result<(), CliFault>
-    ensures { Ran R.remaining (GaveUnion R.remaining) (UnionFails R.remaining) (Prints log_view) W.contents
+    ensures { Ran R.remaining (GaveUnion R.remaining) (UnionFails R.remaining) (Prints log_view)
+        W.contents
         (lent inputs.old output.old) (lent inputs.new output.new) result }
 {
     let view = View {
@@ -94,14 +97,16 @@ pub fn view_logs<A: Allocator + Clone, R: Read, W: Write>(
     run(&UnionOfLogs, &view, alloc, inputs, output)
 }
 
-/// Writes the text of `view_logs` in a form: with times, as JSON objects, or as it is. Fails as `view_logs`.
+/// Writes the text of `view_logs` in a form: with times, as JSON objects, or as it is. Fails as
+/// `view_logs`.
 pub fn view_logs_in<A: Allocator + Clone, R: Read, W: Write>(
     alloc: A,
     form: TextOptions,
     inputs: &mut [Latch<R>],
     output: &mut Latch<W>,
 ) -> Result<(), CliFault>
-    ensures { Ran R.remaining (GaveUnion R.remaining) (UnionFails R.remaining) (Prints (view_in form)) W.contents
+    ensures { Ran R.remaining (GaveUnion R.remaining) (UnionFails R.remaining)
+        (Prints (view_in form)) W.contents
         (lent inputs.old output.old) (lent inputs.new output.new) result }
 {
     run(&UnionOfLogs, &View { form }, alloc, inputs, output)

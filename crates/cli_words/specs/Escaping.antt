@@ -1,5 +1,5 @@
--- How a text is written where some of its bytes would mean something else (profile): in a page of the manual, and between single quotes of a
--- shell's script.
+-- How a text is written where some of its bytes would mean something else (profile): in a page of
+-- the manual, and between single quotes of a shell's script.
 use Rattle.std.specs.Prelude.{ℕ, List, [], ◌∷◌, ◌==◌, codes, if◌then◌else◌}
 use Rattle.std.specs.List.{flat_map}
 use Rattle.cli_words.specs.declared.escape.Language.{Language}
@@ -11,7 +11,8 @@ backslash = 92
 abbrev pub single_quote : ℕ
 single_quote = 39
 
--- In roff `-` is a hyphen, a backslash begins an escape, a `.` or `'` at the head of a line a request, and quotes are set as those of print.
+-- In roff `-` is a hyphen, a backslash begins an escape, a `.` or `'` at the head of a line a
+-- request, and quotes are set as those of print.
 unfoldable pub roff_byte : ℕ → List ℕ
 roff_byte byte =
     if byte == 45 then backslash ∷ codes "-"
@@ -21,7 +22,8 @@ roff_byte byte =
     else if byte == 96 then backslash ∷ codes "(ga"
     else byte ∷ []
 
--- Between single quotes zsh ends at the next of them; its `_arguments` ends the text at a `:` or a bracket, and reads these behind a backslash.
+-- Between single quotes zsh ends at the next of them; its `_arguments` ends the text at a `:` or a
+-- bracket, and reads these behind a backslash.
 unfoldable pub zsh_byte : ℕ → List ℕ
 zsh_byte byte =
     if byte == single_quote then single_quote ∷ backslash ∷ single_quote ∷ single_quote ∷ []
@@ -31,7 +33,8 @@ zsh_byte byte =
     else if byte == backslash then backslash ∷ backslash ∷ []
     else byte ∷ []
 
--- Between single quotes fish reads all as it stands but these quotes and a backslash, which stand behind a backslash.
+-- Between single quotes fish reads all as it stands but these quotes and a backslash, which stand
+-- behind a backslash.
 unfoldable pub fish_byte : ℕ → List ℕ
 fish_byte byte =
     if byte == single_quote then backslash ∷ single_quote ∷ []

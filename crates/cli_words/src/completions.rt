@@ -72,7 +72,8 @@ fn put_part<W: Write>(script: &mut BufferedLatch<'_, W>, part: Part, lists: &Lis
     }
 }
 
-// Puts the names of options, each behind a space and two dashes: of all of them, or of those that have a value.
+// Puts the names of options, each behind a space and two dashes: of all of them, or of those that
+// have a value.
 fn put_options<W: Write>(script: &mut BufferedLatch<'_, W>, valued: bool, words: &[Word]) {
     for word in words {
         if word.is_option() && !(valued && word.value().is_empty()) {

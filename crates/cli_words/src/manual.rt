@@ -41,7 +41,8 @@ enum Part {
     Example,
 }
 
-// The words by which the paragraphs behind the words of a command's help begin that have a section of their own.
+// The words by which the paragraphs behind the words of a command's help begin that have a section
+// of their own.
 const EXAMPLE: &str = "Example: ";
 
 const EXIT: &str = "Exit status: ";

@@ -75,7 +75,8 @@ pub enum Word {
         greatest: u64,
         help: &'static str,
     },
-    /// An option with the name of a file, as often as one likes, beside another option that has to be there then.
+    /// An option with the name of a file, as often as one likes, beside another option that has to
+    /// be there then.
     Files {
         name: &'static str,
         needs: &'static str,

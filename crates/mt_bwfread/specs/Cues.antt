@@ -1,6 +1,8 @@
--- Cue points, their lengths and their labels: the chunks "cue " and LIST of type adtl of Microsoft, "Multimedia
--- Programming Interface and Data Specifications 1.0", chapter 3.
-use Rattle.std.specs.Prelude.{ℕ, zero, suc, ◌-◌, ◌/◌, min, Bool, ◌&&◌, ◌==◌, nat_lt, nat_le, if◌then◌else◌, List, [], ◌∷◌, ◌++◌, length, take, drop, map, find, codes, Option, unwrap_or}
+-- Cue points, their lengths and their labels: the chunks "cue " and LIST of type adtl of Microsoft,
+-- "Multimedia Programming Interface and Data Specifications 1.0", chapter 3.
+use Rattle.std.specs.Prelude.{ℕ, zero, suc, ◌-◌, ◌/◌, min, Bool, ◌&&◌, ◌==◌, nat_lt, nat_le}
+use Rattle.std.specs.Prelude.{if◌then◌else◌, List, [], ◌∷◌, ◌++◌, length, take, drop, map, find}
+use Rattle.std.specs.Prelude.{codes, Option, unwrap_or}
 use Rattle.std.specs.List.{filter, flat_map}
 use Rattle.std.specs.Option.{option_map, option_copied}
 use Rattle.std.specs.Str.{bytes_eq}
@@ -14,11 +16,12 @@ use Rattle.mt_bwfread.specs.declared.length.Length.{Length}
 
 -- ---- points
 
--- The first so many points of 24 bytes each: the name at 0, and at 20 the frame, which is the sample offset.
--- The position, the chunk and the two starts between are not looked at (profile).
+-- The first so many points of 24 bytes each: the name at 0, and at 20 the frame, which is the
+-- sample offset. The position, the chunk and the two starts between are not looked at (profile).
 unfoldable pub points_in : ℕ → List ℕ → List Point
 points_in zero bytes = []
-points_in (suc n) bytes = record { name = u32_at 0 bytes; at = u32_at 20 bytes } ∷ points_in n (drop 24 bytes)
+points_in (suc n) bytes = record { name = u32_at 0 bytes; at = u32_at 20 bytes }
+    ∷ points_in n (drop 24 bytes)
 
 -- four bytes give the number of points; those that are not whole are not read (profile)
 unfoldable pub point_count : List ℕ → ℕ
@@ -36,7 +39,8 @@ points_of text = points_in (point_count (cue_chunk text)) (drop 4 (cue_chunk tex
 
 -- the bytes of the chunks in a list of type adtl; another chunk has none
 unfoldable pub adtl_in : Chunk → List ℕ
-adtl_in c = if bytes_eq c.id (codes "LIST") && bytes_eq (take 4 c.content) (codes "adtl") then drop 4 c.content else []
+adtl_in c = if bytes_eq c.id (codes "LIST") && bytes_eq (take 4 c.content) (codes "adtl") then drop
+    4 c.content else []
 
 -- the chunks of the lists among chunks: of each list those up to one that is not whole (profile)
 unfoldable pub listed_in : List Chunk → List Chunk
@@ -46,7 +50,8 @@ listed_in cs = flat_map (λ c. chunks_of (adtl_in c)) cs
 unfoldable pub listed_left : List ℕ → List ℕ → List Chunk
 listed_left list file = chunks_of list ++ listed_in (chunks_of file)
 
--- a chunk of this id with a fixed part of so many bytes; one that is too short for it is passed over (profile)
+-- a chunk of this id with a fixed part of so many bytes; one that is too short for it is passed
+-- over (profile)
 unfoldable pub is_entry : List ℕ → ℕ → Chunk → Bool
 is_entry id fixed c = bytes_eq c.id id && nat_le fixed (length c.content)
 
@@ -83,8 +88,9 @@ labels_left list file = map label_in (entries_left (codes "labl") 4 list file)
 
 -- ---- lengths
 
--- A chunk ltxt: a name, and a number of samples of one channel. The purpose, the country, the language, the dialect and
--- the code page, which fill its 20 bytes, and a text behind them are not looked at (profile).
+-- A chunk ltxt: a name, and a number of samples of one channel. The purpose, the country, the
+-- language, the dialect and the code page, which fill its 20 bytes, and a text behind them are not
+-- looked at (profile).
 unfoldable pub length_in : Chunk → Named ℕ
 length_in c = record { name = u32_at 0 c.content; value = u32_at 4 c.content }
 
@@ -107,7 +113,8 @@ pub record CueText : Type 0 where
 
 -- with the first length and the first label of its name
 unfoldable pub cue_of : List (Named ℕ) → List (Named (List ℕ)) → Point → CueText
-cue_of lengths labels p = record { name = p.name; at = p.at; length = first_for p.name lengths; label = first_for p.name labels }
+cue_of lengths labels p = record { name = p.name; at = p.at; length = first_for p.name lengths;
+    label = first_for p.name labels }
 
 -- the cues of a wave file
 unfoldable pub cues_of : List ℕ → List CueText

@@ -1,12 +1,13 @@
--- The smallest wave file: one frame of one channel of 8 bits at 44100 samples a second. The last pad byte is
--- missing.
+-- The smallest wave file: one frame of one channel of 8 bits at 44100 samples a second. The last
+-- pad byte is missing.
 use Rattle.std.specs.Prelude.{ℕ, List, [], ◌∷◌, ◌++◌, codes}
 use Rattle.byteorder.specs.Endian.{little_bytes}
 
 -- tag, channels, samples a second, bytes a second, bytes of a frame, bits
 abbrev pub smallest_format : List ℕ
 smallest_format =
-    little_bytes 2 1 ++ little_bytes 2 1 ++ little_bytes 4 44100 ++ little_bytes 4 44100 ++ little_bytes 2 1
+    little_bytes 2 1 ++ little_bytes 2 1 ++ little_bytes 4 44100 ++ little_bytes 4 44100
+        ++ little_bytes 2 1
     ++ little_bytes 2 8
 
 abbrev pub smallest : List ℕ

@@ -1,5 +1,6 @@
 -- The broadcast extension: the chunk bext of EBU Tech 3285.
-use Rattle.std.specs.Prelude.{ℕ, ◌+◌, ◌*◌, ◌^◌, ◌==◌, nat_lt, if◌then◌else◌, List, length, drop, slice_range, codes, Option, Some, None}
+use Rattle.std.specs.Prelude.{ℕ, ◌+◌, ◌*◌, ◌^◌, ◌==◌, nat_lt, if◌then◌else◌, List, length, drop}
+use Rattle.std.specs.Prelude.{slice_range, codes, Option, Some, None}
 use Rattle.std.specs.List.{before_first}
 use Rattle.std.specs.Option.{option_and_then}
 use Rattle.mt_bwfread.specs.Riff.{u16_at, u32_at, content_of}
@@ -21,8 +22,8 @@ pub record Extension : Type 0 where
 unfoldable pub text_of : List ℕ → List ℕ
 text_of field = before_first (λ b. b == 0) field
 
--- The fields by their places. The time reference is the number of samples from midnight to the first.
--- 254 bytes from 348 on are not read, and a shorter chunk reads as none (profile).
+-- The fields by their places. The time reference is the number of samples from midnight to the
+-- first. 254 bytes from 348 on are not read, and a shorter chunk reads as none (profile).
 unfoldable pub extension_in : List ℕ → Option Extension
 extension_in bext =
     if nat_lt (length bext) 602 then None else Some (record {

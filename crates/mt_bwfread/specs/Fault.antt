@@ -1,7 +1,9 @@
 -- The refusals' numbers (profile).
 use Rattle.std.specs.Prelude.{ℕ}
 use Rattle.mt_bwfread.specs.declared.fault.WaveFault.{WaveFault}
-use Rattle.mt_bwfread.specs.declared.fault.WaveFault.TheVariants.{NotRiff, NotWave, Truncated, NoFmt, BadFmt, Unsupported, NoData}
+use Rattle.mt_bwfread.specs.declared.fault.WaveFault.TheVariants.{NotRiff, NotWave, Truncated}
+use Rattle.mt_bwfread.specs.declared.fault.WaveFault.TheVariants.{NoFmt, BadFmt, Unsupported}
+use Rattle.mt_bwfread.specs.declared.fault.WaveFault.TheVariants.{NoData}
 
 abbrev pub number_of : WaveFault → ℕ
 number_of NotRiff = 26

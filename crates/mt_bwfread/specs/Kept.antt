@@ -3,7 +3,8 @@ use Rattle.std.specs.Prelude.{◌≡◌, ◌<◌, ◌^◌, true, codes, drop}
 use Rattle.std.specs.Option.{option_copied}
 use Rattle.mt_bwfread.specs.declared.wave.Wave.TheInside.{Inside}
 use Rattle.mt_bwfread.specs.Riff.{AreChunks, content_of}
-use Rattle.mt_bwfread.specs.Wave.{IsWave, is_width, body_of, chunks_in, samples_of, rate_of, channels_of, bits_of, frames_of}
+use Rattle.mt_bwfread.specs.Wave.{IsWave, is_width, body_of, chunks_in, samples_of, rate_of}
+use Rattle.mt_bwfread.specs.Wave.{channels_of, bits_of, frames_of}
 use Rattle.mt_bwfread.specs.Cues.{cue_chunk, point_count}
 
 pub record IsKept (w : Inside) : Type 0 where

@@ -28,10 +28,14 @@ pub record AreFirsts (f : Found) (cs : List Chunk) : Type 0 where
 
 -- the same of one more chunk
 pub record AreFirstsWith (old : Found) (c : Chunk) (new : Found) : Type 0 where
-  pub fmt : option_copied new.fmt ≡ option_or (option_copied old.fmt) (content_of (codes "fmt ") (c ∷ []))
-  pub samples : option_copied new.samples ≡ option_or (option_copied old.samples) (content_of (codes "data") (c ∷ []))
-  pub bext : option_copied new.bext ≡ option_or (option_copied old.bext) (content_of (codes "bext") (c ∷ []))
-  pub cue : option_copied new.cue ≡ option_or (option_copied old.cue) (content_of (codes "cue ") (c ∷ []))
+  pub fmt : option_copied new.fmt ≡ option_or (option_copied old.fmt)
+      (content_of (codes "fmt ") (c ∷ []))
+  pub samples : option_copied new.samples ≡ option_or (option_copied old.samples)
+      (content_of (codes "data") (c ∷ []))
+  pub bext : option_copied new.bext ≡ option_or (option_copied old.bext)
+      (content_of (codes "bext") (c ∷ []))
+  pub cue : option_copied new.cue ≡ option_or (option_copied old.cue)
+      (content_of (codes "cue ") (c ∷ []))
 
 -- the numbers of a format that is read
 pub record AreNumbers (f : Format) (fmt : List ℕ) : Type 0 where
@@ -47,7 +51,9 @@ pub record AreContents (f : Found) (format : Format) (bytes : List ℕ) : Type 0
   pub numbers : AreNumbers format (unwrap_or (option_copied f.fmt) [])
   pub samples : bytes ≡ unwrap_or (option_copied f.samples) []
 
--- the first chunk of this id and of so many bytes that is left in the lists, and what is left behind it
+-- the first chunk of this id and of so many bytes that is left in the lists, and what is left
+-- behind it
 pub record IsEntry (id : List ℕ) (fixed : ℕ) (list file : List ℕ) (e : Entry) : Type 0 where
   pub long : fixed ≤ length e.part.content.now
-  pub first : entries_left id fixed list file ≡ chunk_at e.part ∷ entries_left id fixed e.part.after.now e.file.now
+  pub first : entries_left id fixed list file ≡ chunk_at e.part
+      ∷ entries_left id fixed e.part.after.now e.file.now

@@ -1,5 +1,7 @@
--- RIFF chunks, after Microsoft, "Multimedia Programming Interface and Data Specifications 1.0", chapter 2.
-use Rattle.std.specs.Prelude.{◌≡◌, ℕ, zero, suc, ◌+◌, ◌%◌, ◌^◌, ◌<◌, Bool, List, [], ◌∷◌, ◌++◌, length, take, drop, Option, Some, None, nat_le, if◌then◌else◌}
+-- RIFF chunks, after Microsoft, "Multimedia Programming Interface and Data Specifications 1.0",
+-- chapter 2.
+use Rattle.std.specs.Prelude.{◌≡◌, ℕ, zero, suc, ◌+◌, ◌%◌, ◌^◌, ◌<◌, Bool, List, [], ◌∷◌, ◌++◌}
+use Rattle.std.specs.Prelude.{length, take, drop, Option, Some, None, nat_le, if◌then◌else◌}
 use Rattle.std.specs.Str.{bytes_eq}
 use Rattle.byteorder.specs.Endian.{little_number, little_bytes}
 
@@ -25,15 +27,16 @@ pub record Begins (bytes : List ℕ) (c : Chunk) (after : List ℕ) : Type 0 whe
   pub size : length c.content < 2 ^ 32
   pub text : bytes ≡ chunk_text c ++ after
 
--- A content of odd length is followed by one pad byte, which the length does not count. At the very end
--- the pad byte may be missing (profile).
+-- A content of odd length is followed by one pad byte, which the length does not count. At the very
+-- end the pad byte may be missing (profile).
 abbrev pub after_pad : Chunk → List ℕ → List ℕ
 after_pad c after = drop (length c.content % 2) after
 
 -- the bytes are these chunks one after another, each with its pad byte, and then a rest
 abbrev pub Splits : List ℕ → List Chunk → List ℕ → Type 0
 Splits bytes [] rest = bytes ≡ rest
-Splits bytes (c ∷ cs) rest = (after : List ℕ) × (Begins bytes c after × Splits (after_pad c after) cs rest)
+Splits bytes (c ∷ cs) rest = (after : List ℕ) × (Begins bytes c after
+    × Splits (after_pad c after) cs rest)
 
 -- The bytes are these chunks, and a rest of fewer than 8 bytes, which is ignored (profile).
 abbrev pub AreChunks : List ℕ → List Chunk → Type 0
@@ -55,14 +58,15 @@ after_chunk bytes = drop (u32_at 4 bytes % 2) (drop (u32_at 4 bytes) (drop 8 byt
 -- at most k chunks from the front, up to where no whole chunk stands, and what is left there
 unfoldable pub front_chunks : ℕ → List ℕ → List Chunk
 front_chunks zero bytes = []
-front_chunks (suc k) bytes = if has_chunk bytes then (first_chunk bytes ∷ front_chunks k (after_chunk bytes)) else []
+front_chunks (suc k) bytes = if has_chunk bytes then
+    (first_chunk bytes ∷ front_chunks k (after_chunk bytes)) else []
 
 unfoldable pub front_rest : ℕ → List ℕ → List ℕ
 front_rest zero bytes = bytes
 front_rest (suc k) bytes = if has_chunk bytes then front_rest k (after_chunk bytes) else bytes
 
--- All chunks from the front, up to where no whole chunk stands, and what is left there. Each chunk takes
--- bytes, so there are no more chunks than bytes.
+-- All chunks from the front, up to where no whole chunk stands, and what is left there. Each chunk
+-- takes bytes, so there are no more chunks than bytes.
 unfoldable pub chunks_of : List ℕ → List Chunk
 chunks_of bytes = front_chunks (length bytes) bytes
 

@@ -1,11 +1,17 @@
--- A wave file: what is refused, the format, and the samples. RIFF/WAVE is Microsoft, "Multimedia Programming
--- Interface and Data Specifications 1.0", chapter 3; the tag 0xFFFE is its page on WAVEFORMATEXTENSIBLE.
-use Rattle.std.specs.Prelude.{◌≡◌, ℕ, ◌+◌, ◌*◌, ◌/◌, ◌^◌, min, Bool, ◌&&◌, ◌||◌, not, ◌==◌, nat_lt, nat_le, if◌then◌else◌, List, [], ◌∷◌, length, take, drop, slice_index, slice_range, codes, Option, Some, None, unwrap_or, Result, Ok, Err, ℤ, pos, ◌-ℤ◌, ◌*ℤ◌}
+-- A wave file: what is refused, the format, and the samples. RIFF/WAVE is Microsoft, "Multimedia
+-- Programming Interface and Data Specifications 1.0", chapter 3; the tag 0xFFFE is its page on
+-- WAVEFORMATEXTENSIBLE.
+use Rattle.std.specs.Prelude.{◌≡◌, ℕ, ◌+◌, ◌*◌, ◌/◌, ◌^◌, min, Bool, ◌&&◌, ◌||◌, not, ◌==◌, nat_lt}
+use Rattle.std.specs.Prelude.{nat_le, if◌then◌else◌, List, [], ◌∷◌, length, take, drop, slice_index}
+use Rattle.std.specs.Prelude.{slice_range, codes, Option, Some, None, unwrap_or, Result, Ok, Err, ℤ}
+use Rattle.std.specs.Prelude.{pos, ◌-ℤ◌, ◌*ℤ◌}
 use Rattle.std.specs.Option.{option_or}
 use Rattle.std.specs.Str.{bytes_eq}
 use Rattle.byteorder.specs.Endian.{little_number, twos_complement}
 use Rattle.mt_bwfread.specs.declared.fault.WaveFault.{WaveFault}
-use Rattle.mt_bwfread.specs.declared.fault.WaveFault.TheVariants.{NotRiff, NotWave, Truncated, NoFmt, BadFmt, Unsupported, NoData}
+use Rattle.mt_bwfread.specs.declared.fault.WaveFault.TheVariants.{NotRiff, NotWave, Truncated}
+use Rattle.mt_bwfread.specs.declared.fault.WaveFault.TheVariants.{NoFmt, BadFmt, Unsupported}
+use Rattle.mt_bwfread.specs.declared.fault.WaveFault.TheVariants.{NoData}
 use Rattle.mt_bwfread.specs.Riff.{u16_at, u32_at, Chunk, chunks_of, rest_of, content_of}
 
 -- the text begins as a RIFF chunk
@@ -47,7 +53,8 @@ abbrev pub subformat_in : List ℕ → List ℕ
 subformat_in fmt = slice_range fmt 24 40
 
 abbrev pub pcm : List ℕ
-pcm = 0x01 ∷ 0x00 ∷ 0x00 ∷ 0x00 ∷ 0x00 ∷ 0x00 ∷ 0x10 ∷ 0x00 ∷ 0x80 ∷ 0x00 ∷ 0x00 ∷ 0xaa ∷ 0x00 ∷ 0x38 ∷ 0x9b ∷ 0x71 ∷ []
+pcm = 0x01 ∷ 0x00 ∷ 0x00 ∷ 0x00 ∷ 0x00 ∷ 0x00 ∷ 0x10 ∷ 0x00 ∷ 0x80 ∷ 0x00 ∷ 0x00 ∷ 0xaa ∷ 0x00
+    ∷ 0x38 ∷ 0x9b ∷ 0x71 ∷ []
 
 -- the widths of samples that are read (profile)
 abbrev pub is_width : ℕ → Bool
@@ -131,8 +138,8 @@ width_of text = bits_of text / 8
 unfoldable pub frames_of : List ℕ → ℕ
 frames_of text = length (samples_of text) / (channels_of text * width_of text)
 
--- The sample that the bytes begin with, at 32-bit scale (profile): one byte is unsigned with its zero at 128, and
--- two to four bytes are two's complement.
+-- The sample that the bytes begin with, at 32-bit scale (profile): one byte is unsigned with its
+-- zero at 128, and two to four bytes are two's complement.
 unfoldable pub scaled : ℕ → List ℕ → ℤ
 scaled bits bytes =
     if bits == 8 then (pos (slice_index bytes 0) -ℤ pos 128) *ℤ pos (2 ^ 24)
@@ -143,4 +150,5 @@ scaled bits bytes =
 -- the sample of a channel in a frame: the samples of a frame stand side by side
 unfoldable pub sample_of : List ℕ → ℕ → ℕ → ℤ
 sample_of text frame channel =
-    scaled (bits_of text) (drop ((frame * channels_of text + channel) * width_of text) (samples_of text))
+    scaled (bits_of text) (drop ((frame * channels_of text + channel) * width_of text)
+        (samples_of text))

@@ -4,8 +4,8 @@ use crate::number::{u16_at, u32_at};
 use crate::text::text;
 use crate::wave::Wave;
 
-/// The broadcast extension (EBU Tech 3285): what the chunk `bext` says. Each text is a slice of the file,
-/// which ends before its first zero byte; no text is tested for its characters.
+/// The broadcast extension (EBU Tech 3285): what the chunk `bext` says. Each text is a slice of the
+/// file, which ends before its first zero byte; no text is tested for its characters.
 #[derive(Clone, Copy, Debug, PartialEq, Eq)]
 pub struct Bext<'a> {
     /// The sound, in at most 256 bytes.
@@ -59,9 +59,9 @@ impl<'a> Wave<'a> {
     ghost use Rattle.std.specs.Option.{option_map};
     ghost use Rattle.mt_bwfread.specs.Extension.{extension, bext_of};
 
-    /// The broadcast extension, if the file has one: its first chunk `bext`, unless that is shorter than
-    /// 602 bytes. Each call looks for the ends of the texts anew, the history's among them, which may be as
-    /// long as the file.
+    /// The broadcast extension, if the file has one: its first chunk `bext`, unless that is shorter
+    /// than 602 bytes. Each call looks for the ends of the texts anew, the history's among them,
+    /// which may be as long as the file.
     #[tactic(auto, unfolding(crate::specs::Extension::bext_of))]
     pub fn bext(&self) -> Option<Bext<'a>>
         ensures { option_map extension result ≡ bext_of self.now }

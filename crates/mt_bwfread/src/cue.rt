@@ -19,8 +19,8 @@ pub struct Cue<'a> {
     pub name: u32,
     /// Its frame, counted from 0. It may lie behind the last frame.
     pub at: u32,
-    /// How many frames from there on it means, if a chunk `ltxt` says so: the first length of its name. It may be 0, and they may
-    /// pass the last frame.
+    /// How many frames from there on it means, if a chunk `ltxt` says so: the first length of its
+    /// name. It may be 0, and they may pass the last frame.
     pub length: Option<u32>,
     /// The text of the first label of its name: a slice of the file, not tested for its characters.
     pub label: Option<&'a [u8]>,
@@ -40,8 +40,8 @@ impl<'a> Wave<'a> {
         self.point_count
     }
 
-    /// The cue point of this index, from 0 on, without its length and its label; none from `cue_count` on. Takes the same
-    /// short time for each.
+    /// The cue point of this index, from 0 on, without its length and its label; none from
+    /// `cue_count` on. Takes the same short time for each.
     pub fn point(&self, index: u32) -> Option<Point>
         ensures { result ≡ slice_get (points_of self.now) index }
     {
@@ -55,9 +55,9 @@ impl<'a> Wave<'a> {
         })
     }
 
-    /// The cue of this index, from 0 on; none from `cue_count` on. Each call walks over the chunks of the
-    /// file and its lists for the length, and once more for the label: for all cues take `point`, `lengths` and `labels`,
-    /// which walk once.
+    /// The cue of this index, from 0 on; none from `cue_count` on. Each call walks over the chunks
+    /// of the file and its lists for the length, and once more for the label: for all cues take
+    /// `point`, `lengths` and `labels`, which walk once.
     pub fn cue(&self, index: u32) -> Option<Cue<'a>>
         ensures { option_map cue_text result ≡ slice_get (cues_of self.now) index }
     {

@@ -33,8 +33,8 @@ fn from_place(bytes: &[u8], place: usize) -> &[u8]
     &bytes[place..]
 }
 
-/// Reads samples of 24 bits that stand side by side. Sixteen bytes are read for four samples, so the last two are left to be read one
-/// by one at least.
+/// Reads samples of 24 bits that stand side by side. Sixteen bytes are read for four samples, so
+/// the last two are left to be read one by one at least.
 pub(crate) fn load_side_by_side(samples: &mut [i32], bytes: &[u8])
     requires { length samples.old * 3 ≤ length bytes.now }
     ensures { AreRead 24 bytes.now 3 samples.new }

@@ -60,9 +60,10 @@ impl<'a> Wave<'a> {
     ghost use Rattle.std.specs.Option.{option_copied};
     ghost use Rattle.mt_bwfread.specs.Cues.{labels_of, first_for};
 
-    /// The labels of all lists of type `adtl`, in file order; several may have one name, and the first of
-    /// them counts. A list ends before a chunk that is not whole. To label many cue points, walk once over
-    /// these and keep the first of each name: `label` and `cue` walk anew at each call.
+    /// The labels of all lists of type `adtl`, in file order; several may have one name, and the
+    /// first of them counts. A list ends before a chunk that is not whole. To label many cue
+    /// points, walk once over these and keep the first of each name: `label` and `cue` walk anew at
+    /// each call.
     pub fn labels(&self) -> Labels<'a>
         ensures { result ≡ labels_of self.now }
     {
@@ -72,8 +73,8 @@ impl<'a> Wave<'a> {
         }
     }
 
-    /// The text of the first label of this name. Walks over the chunks of the file and its lists up to that
-    /// label, and over all of them where there is none.
+    /// The text of the first label of this name. Walks over the chunks of the file and its lists up
+    /// to that label, and over all of them where there is none.
     pub fn label(&self, name: u32) -> Option<&'a [u8]>
         ensures { option_copied result ≡ first_for name (labels_of self.now) }
     {

@@ -1,19 +1,23 @@
 //! Laws of the definitions. Each function does nothing: its contract is the law.
 
-ghost use Rattle.std.specs.Prelude.{◌≡◌, ◌<◌, ◌≤◌, ◌^◌, IsTrue, drop, unsigned_abs, ℕ, List, [], false, take, Some, None, negsuc};
+ghost use Rattle.std.specs.Prelude.{◌≡◌, ◌<◌, ◌≤◌, ◌^◌, IsTrue, drop, unsigned_abs, ℕ, List, []};
+ghost use Rattle.std.specs.Prelude.{false, take, Some, None, negsuc};
 ghost use Rattle.mt_bwfread.specs.Riff.{Chunk, Splits, AreChunks, has_chunk, chunks_of, rest_of};
-ghost use Rattle.mt_bwfread.specs.Wave.{IsWave, body_of, chunks_in, is_width, fault_of, rate_of, channels_of, bits_of, frames_of, sample_of, scaled};
+ghost use Rattle.mt_bwfread.specs.Wave.{IsWave, body_of, chunks_in, is_width, fault_of, rate_of};
+ghost use Rattle.mt_bwfread.specs.Wave.{channels_of, bits_of, frames_of, sample_of, scaled};
 ghost use Rattle.mt_bwfread.specs.Fill.{sample_or_silence};
 ghost use Rattle.mt_bwfread.specs.Extension.{bext_of};
 ghost use Rattle.mt_bwfread.specs.Cues.{cues_of};
 ghost use Rattle.mt_bwfread.specs.Example.{smallest};
-ghost use Rattle.mt_bwfread.specs.declared.fault.WaveFault.TheVariants.{NotRiff, NotWave, Truncated, NoFmt, NoData};
+ghost use Rattle.mt_bwfread.specs.declared.fault.WaveFault.TheVariants.{NotRiff, NotWave};
+ghost use Rattle.mt_bwfread.specs.declared.fault.WaveFault.TheVariants.{Truncated, NoFmt, NoData};
 
 use crate::wave::Wave;
 
 /// At most one list of chunks is in the bytes.
 pub fn one_chunk_list()
-    ensures { (bytes : List ℕ) (cs ds : List Chunk) → AreChunks bytes cs → AreChunks bytes ds → cs ≡ ds }
+    ensures { (bytes : List ℕ) (cs ds : List Chunk) → AreChunks bytes cs → AreChunks bytes ds → cs
+        ≡ ds }
 {}
 
 /// The walk over the bytes finds the chunks that are in them.
@@ -25,7 +29,8 @@ pub fn walk_finds()
 pub fn walk_splits(bytes: &[u8])
     ensures splits { Splits bytes.now (chunks_of bytes.now) (rest_of bytes.now) }
     ensures to_the_end { has_chunk (rest_of bytes.now) ≡ false }
-    ensures only { (cs : List Chunk) (rest : List ℕ) → Splits bytes.now cs rest → has_chunk rest ≡ false
+    ensures only { (cs : List Chunk) (rest : List ℕ) → Splits bytes.now cs rest → has_chunk rest
+        ≡ false
         → chunks_of bytes.now ≡ cs }
 {
     // for the proof: that what a slice of bytes holds are bytes
@@ -58,7 +63,8 @@ fn scaled_small(bytes: &[u8])
 /// No sample of a wave file passes 2^31 in size, whatever the frame and the channel.
 #[inline]
 pub fn small_samples(wave: &Wave<'_>)
-    ensures { (frame channel : ℕ) → unsigned_abs (sample_or_silence wave.now frame channel) ≤ 2 ^ 31 }
+    ensures { (frame channel : ℕ) → unsigned_abs (sample_or_silence wave.now frame channel)
+        ≤ 2 ^ 31 }
 {
     scaled_small(wave.samples);
 }

@@ -58,9 +58,10 @@ impl<'a> Wave<'a> {
     ghost use Rattle.std.specs.Prelude.{◌≡◌};
     ghost use Rattle.mt_bwfread.specs.Cues.{lengths_of, first_for};
 
-    /// The lengths that the chunks `ltxt` of all lists of type `adtl` say, in file order; several may have one name, and
-    /// the first of them counts. A chunk of fewer than 20 bytes says none, and a list ends before a chunk that is not
-    /// whole. For many cue points walk once over these, as over `labels`: `length` and `cue` walk anew at each call.
+    /// The lengths that the chunks `ltxt` of all lists of type `adtl` say, in file order; several
+    /// may have one name, and the first of them counts. A chunk of fewer than 20 bytes says none,
+    /// and a list ends before a chunk that is not whole. For many cue points walk once over these,
+    /// as over `labels`: `length` and `cue` walk anew at each call.
     pub fn lengths(&self) -> Lengths<'a>
         ensures { result ≡ lengths_of self.now }
     {
@@ -70,8 +71,8 @@ impl<'a> Wave<'a> {
         }
     }
 
-    /// The first length of this name, in frames. Walks over the chunks of the file and its lists up to the chunk that
-    /// says it, and over all of them where there is none.
+    /// The first length of this name, in frames. Walks over the chunks of the file and its lists up
+    /// to the chunk that says it, and over all of them where there is none.
     pub fn length(&self, name: u32) -> Option<u32>
         ensures { result ≡ first_for name (lengths_of self.now) }
     {

@@ -1,5 +1,5 @@
-//! Reading of Broadcast Wave files over slices of the file: no byte of a text or of a sample is copied,
-//! and nothing is allocated.
+//! Reading of Broadcast Wave files over slices of the file: no byte of a text or of a sample is
+//! copied, and nothing is allocated.
 //!
 //! ```rust
 //! use mt_bwfread::Wave;
@@ -23,9 +23,9 @@
 //! }
 //! ```
 //!
-//! A clause sees a [`Wave`] as its text, and says what is read off it in the words of `specs/`: `Riff` has
-//! the chunks, `Wave` the refusals, the format and the samples, `Extension` the chunk `bext`, and `Cues`
-//! the cue points, their lengths and their labels.
+//! A clause sees a [`Wave`] as its text, and says what is read off it in the words of `specs/`:
+//! `Riff` has the chunks, `Wave` the refusals, the format and the samples, `Extension` the chunk
+//! `bext`, and `Cues` the cue points, their lengths and their labels.
 #![tactic(auto)]
 
 mod bext;

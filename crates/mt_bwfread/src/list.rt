@@ -13,14 +13,16 @@ pub(crate) struct Entry<'a> {
     pub(crate) file: &'a [u8],
 }
 
-/// The first chunk of this id and of `fixed` bytes or more that is left in a list, and behind it in the lists of the file.
+/// The first chunk of this id and of `fixed` bytes or more that is left in a list, and behind it in
+/// the lists of the file.
 pub(crate) fn next_entry<'a>(
     id: &[u8],
     fixed: usize,
     list: &'a [u8],
     file: &'a [u8],
 ) -> Option<Entry<'a>>
-    ensures { MatchOption result (entries_left id.now fixed list.now file.now ≡ []) (IsEntry id.now fixed list.now file.now) }
+    ensures { MatchOption result (entries_left id.now fixed list.now file.now ≡ [])
+        (IsEntry id.now fixed list.now file.now) }
 {
     let mut in_list = list;
     let mut in_file = file;

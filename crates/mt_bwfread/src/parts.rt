@@ -2,7 +2,8 @@
 
 ghost use Rattle.std.specs.Prelude.{◌≡◌, ◌≤◌, ◌*◌, true, Some, IfOk, MatchResult, length, drop};
 ghost use Rattle.std.specs.Option.{option_copied};
-ghost use Rattle.mt_bwfread.specs.Wave.{is_riff, is_wave, body_of, fault_of, FailsBy, contents_fault};
+ghost use Rattle.mt_bwfread.specs.Wave.{is_riff, is_wave, body_of, fault_of, FailsBy};
+ghost use Rattle.mt_bwfread.specs.Wave.{contents_fault};
 ghost use Rattle.mt_bwfread.specs.Cues.{point_count};
 ghost use Rattle.mt_bwfread.specs.Parts.{AreContents};
 

@@ -32,10 +32,14 @@ impl<'a> Model for Wave<'a> {
 }
 
 impl<'a> Wave<'a> {
-    ghost use Rattle.std.specs.Prelude.{◌≡◌, ◌<◌, ◌^◌, ◌↔◌, List, IfOk, OnOk, IsErrOf, IsTrue, true, false};
-    ghost use Rattle.mt_bwfread.specs.declared.fault.WaveFault.TheVariants.{NotRiff, NotWave, Truncated};
+    ghost use Rattle.std.specs.Prelude.{◌≡◌, ◌<◌, ◌^◌, ◌↔◌, List, IfOk, OnOk, IsErrOf, IsTrue};
+    ghost use Rattle.std.specs.Prelude.{true, false};
+    ghost use Rattle.mt_bwfread.specs.declared.fault.WaveFault.TheVariants.{NotRiff, NotWave};
+    ghost use Rattle.mt_bwfread.specs.declared.fault.WaveFault.TheVariants.{Truncated};
     ghost use Rattle.mt_bwfread.specs.Riff.{Chunk, AreChunks};
-    ghost use Rattle.mt_bwfread.specs.Wave.{is_riff, is_wave, body_of, chunks_in, fault_in, fault_of, FailsBy, IsWave, is_width, rate_of, channels_of, bits_of, frames_of};
+    ghost use Rattle.mt_bwfread.specs.Wave.{is_riff, is_wave, body_of, chunks_in, fault_in};
+    ghost use Rattle.mt_bwfread.specs.Wave.{fault_of, FailsBy, IsWave, is_width, rate_of};
+    ghost use Rattle.mt_bwfread.specs.Wave.{channels_of, bits_of, frames_of};
 
     // The text as a wave file, or the first fault.
     fn parse(text: &'a [u8]) -> Result<Wave<'a>, WaveFault>
@@ -60,24 +64,28 @@ impl<'a> Wave<'a> {
         })
     }
 
-    /// Reads the text of a wave file: a RIFF chunk of type `WAVE` whose chunk `fmt ` says PCM of 8, 16, 24 or
-    /// 32 bits, and a chunk `data`. Nothing is copied; the time grows with the number of chunks alone.
+    /// Reads the text of a wave file: a RIFF chunk of type `WAVE` whose chunk `fmt ` says PCM of 8,
+    /// 16, 24 or 32 bits, and a chunk `data`. Nothing is copied; the time grows with the number of
+    /// chunks alone.
     ///
-    /// Chunks stand in any order, and the first of each kind counts. Bytes behind the RIFF chunk are not
-    /// looked at, and where it says more bytes than there are, the text's end is its end.
+    /// Chunks stand in any order, and the first of each kind counts. Bytes behind the RIFF chunk
+    /// are not looked at, and where it says more bytes than there are, the text's end is its end.
     ///
     /// # Errors
-    /// The first of these: 26 where the text does not begin as a RIFF chunk; 27 where the type is not
-    /// `WAVE`; 28 where a chunk passes the end; 29 without a chunk `fmt `; 30 and 31 where the format is
-    /// malformed or not PCM of those widths; 32 without a chunk `data`.
+    /// The first of these: 26 where the text does not begin as a RIFF chunk; 27 where the type is
+    /// not `WAVE`; 28 where a chunk passes the end; 29 without a chunk `fmt `; 30 and 31 where the
+    /// format is malformed or not PCM of those widths; 32 without a chunk `data`.
     pub fn read(text: &'a [u8]) -> Result<Wave<'a>, WaveFault>
         // What is read is this text, and the chunks in it are the chunks that are read off it.
         ensures found { IfOk result (λ w. (w ≡ text.now) × IsWave text.now) }
         ensures chunks { OnOk result (AreChunks (body_of text.now) (chunks_in text.now)) }
-        // Which refusal it is: the first three by the text, the others by the chunks that are in it.
+        // Which refusal it is: the first three by the text, the others by the chunks that are in
+        // it.
         ensures not_riff { IsErrOf result NotRiff ↔ (is_riff text.now ≡ false) }
-        ensures not_wave { IsErrOf result NotWave ↔ ((is_riff text.now ≡ true) × (is_wave text.now ≡ false)) }
-        ensures truncated { IsErrOf result Truncated ↔ ((is_riff text.now ≡ true) × (is_wave text.now ≡ true)
+        ensures not_wave { IsErrOf result NotWave ↔ ((is_riff text.now ≡ true)
+            × (is_wave text.now ≡ false)) }
+        ensures truncated { IsErrOf result Truncated ↔ ((is_riff text.now ≡ true)
+            × (is_wave text.now ≡ true)
             × ((cs : List Chunk) → ¬ AreChunks (body_of text.now) cs)) }
         ensures by_chunks { (cs : List Chunk) → is_riff text.now ≡ true → is_wave text.now ≡ true
             → AreChunks (body_of text.now) cs → FailsBy result (fault_in cs) }

@@ -85,8 +85,8 @@ fn load_each<W: Width>(samples: &mut [i32], bytes: &[u8], step: usize)
     }
 }
 
-/// The samples of so many bits that stand `step` bytes apart, from the front of the bytes on: one loop for each width, and one for
-/// 24 bits side by side.
+/// The samples of so many bits that stand `step` bytes apart, from the front of the bytes on: one
+/// loop for each width, and one for 24 bits side by side.
 pub(crate) fn load(samples: &mut [i32], bits: u16, bytes: &[u8], step: usize)
     requires width { IsTrue (is_width bits) }
     requires room { length samples.old * step ≤ length bytes.now + step - bits / 8 }

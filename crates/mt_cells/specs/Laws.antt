@@ -11,4 +11,5 @@ AreEqualRegisters eq a b = (a.writer ≡ b.writer) × IsTrue (eq a.value b.value
 
 -- Registers together hold a pair that one of them holds, and none of them holds a greater one.
 abbrev pub RegistersKeepTheGreatest : {T : Type 0} → (T → T → Ordering) → Type 0
-RegistersKeepTheGreatest {T} cmp = (w : Written T) (ws : List (Written T)) → IsGreatest (written_cmp cmp) (w ∷ ws) (join_all (greater (written_cmp cmp)) w ws)
+RegistersKeepTheGreatest {T} cmp = (w : Written T) (ws : List (Written T))
+    → IsGreatest (written_cmp cmp) (w ∷ ws) (join_all (greater (written_cmp cmp)) w ws)

@@ -1,4 +1,5 @@
--- What an item's presence holds: its tags, and the removed ones (INRIA RR-7506, section 3.3.5: Observed-Remove Set (OR-Set)).
+-- What an item's presence holds: its tags, and the removed ones (INRIA RR-7506, section 3.3.5:
+-- Observed-Remove Set (OR-Set)).
 use Rattle.std.specs.Prelude.{Bool, ◌&&◌, List, [], ◌∷◌, refl}
 use Rattle.std.specs.Coded.{Coded, code_by, coded×}
 use Rattle.std.specs.FinSet as set
@@ -41,7 +42,8 @@ abbrev pub stamps_code : Coded (set.FinSet stamp_cmp)
 stamps_code = set.code stamp_code
 
 abbrev pub marks_code : Coded Presence
-marks_code = code_by (set.FinSet stamp_cmp × set.FinSet stamp_cmp) (coded× stamps_code stamps_code) (λ m. (m.tags, m.removed)) (λ p. record { tags = p.0; removed = p.1 }) (λ _. refl)
+marks_code = code_by (set.FinSet stamp_cmp × set.FinSet stamp_cmp) (coded× stamps_code stamps_code)
+    (λ m. (m.tags, m.removed)) (λ p. record { tags = p.0; removed = p.1 }) (λ _. refl)
 
 -- the stamps that a set keeps, in whatever order
 abbrev pub stamps_in : {A : Type 0} → Inline A → List Stamp

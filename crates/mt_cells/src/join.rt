@@ -7,7 +7,8 @@ ghost use Rattle.mt_cells.specs.Folds as folds;
 use crate::fault::CellFault;
 use std::alloc::Allocator;
 
-/// A value that replicas keep and join: a join semilattice (INRIA RR-7506, state-based convergence). The laws hold up to `==`.
+/// A value that replicas keep and join: a join semilattice (INRIA RR-7506, state-based
+/// convergence). The laws hold up to `==`.
 pub trait Join: Eq {
     /// What two values are together.
     ghost joined: { Self → Self → Self };
@@ -15,28 +16,34 @@ pub trait Join: Eq {
     /// Whether joining may take memory.
     ghost takes_memory: { Bool };
 
-    /// Joins another value to this one. Refused only as `Memory` (0), and never where joining takes none; the value
-    /// then lies between what it was and what both are together.
+    /// Joins another value to this one. Refused only as `Memory` (0), and never where joining takes
+    /// none; the value then lies between what it was and what both are together.
     fn join(&mut self, other: Self) -> Result<(), CellFault>
         ensures joined { OnOk result (self.new ≡ joined self.old other) }
         ensures refused { OnErr result (takes_memory ≡ true) }
         ensures from { OnErr result (IsTrue (Self.eq (joined self.old self.new) self.new)) }
-        ensures to { OnErr result (IsTrue (Self.eq (joined self.new (joined self.old other)) (joined self.old other))) };
+        ensures to { OnErr result (IsTrue (Self.eq (joined self.new (joined self.old other))
+            (joined self.old other))) };
 
     ghost commutative: { (a b : Self) → IsTrue (Self.eq (joined a b) (joined b a)) };
 
-    ghost associative: { (a b c : Self) → IsTrue (Self.eq (joined (joined a b) c) (joined a (joined b c))) };
+    ghost associative: { (a b c : Self) → IsTrue (Self.eq (joined (joined a b) c)
+        (joined a (joined b c))) };
 
     ghost idempotent: { (a : Self) → IsTrue (Self.eq (joined a a) a) };
 
-    ghost respects: { (a b c d : Self) → IsTrue (Self.eq a b) → IsTrue (Self.eq c d) → IsTrue (Self.eq (joined a c) (joined b d)) };
+    ghost respects: { (a b c d : Self) → IsTrue (Self.eq a b) → IsTrue (Self.eq c d)
+        → IsTrue (Self.eq (joined a c) (joined b d)) };
 }
 
-/// All values together, joined to the first from left to right. Which value that is depends on which values they are
-/// alone: not on their order, and not on repeats. Refused only as `Memory` (0), and never where joining takes none.
+/// All values together, joined to the first from left to right. Which value that is depends on
+/// which values they are alone: not on their order, and not on repeats. Refused only as `Memory`
+/// (0), and never where joining takes none.
 pub fn join_all<C: Join + Drop, A: Allocator>(first: C, others: Vec<C, A>) -> Result<C, CellFault>
     ensures value { IfOk result (λ all. all ≡ folds.join_all C.joined first others.items) }
-    ensures any_order { IfOk result (λ all. (x : C) (xs : List C) → SameValues C.eq (x ∷ xs) (first ∷ others.items) → IsTrue (C.eq all (folds.join_all C.joined x xs))) }
+    ensures any_order { IfOk result (λ all. (x : C) (xs : List C)
+        → SameValues C.eq (x ∷ xs) (first ∷ others.items) → IsTrue
+        (C.eq all (folds.join_all C.joined x xs))) }
     ensures refused { OnErr result (C.takes_memory ≡ true) }
 {
     join_from_left(first, others)

@@ -1,4 +1,5 @@
-//! What holds of all cells: each law is the contract of a small function, which does nothing or only compares.
+//! What holds of all cells: each law is the contract of a small function, which does nothing or
+//! only compares.
 
 ghost use Rattle.std.specs.Prelude.{◌≡◌, ◌↔◌, IsTrue};
 ghost use Rattle.mt_cells.specs.Laws.{AreEqualRegisters, RegistersKeepTheGreatest};

@@ -1,7 +1,8 @@
-//! What replicas keep of one item and join in any order: the laws of joining, the last-writer register, and presence.
+//! What replicas keep of one item and join in any order: the laws of joining, the last-writer
+//! register, and presence.
 //!
-//! A `Register` is one field of an item, and holds the write of the greatest stamp. A `Presence` tells whether the item is there: while one of
-//! its tags is not removed.
+//! A `Register` is one field of an item, and holds the write of the greatest stamp. A `Presence`
+//! tells whether the item is there: while one of its tags is not removed.
 //!
 //! ```rust
 //! use mt_cells::{Join, Presence, Register};

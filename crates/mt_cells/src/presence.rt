@@ -15,10 +15,10 @@ use mt_stamp::Stamp;
 use std::alloc::{Allocator, Global};
 use std::marker::Model;
 
-/// Whether one item is there: the stamps that tag it, and those that were removed. It is present while a tag is not
-/// removed, so a removal takes away the tags that it names and no other (INRIA RR-7506, section 3.3.5:
-/// Observed-Remove Set). Marks may come in any order, a removal before its tag too. The tags take memory from the third
-/// one on, and so do the removals.
+/// Whether one item is there: the stamps that tag it, and those that were removed. It is present
+/// while a tag is not removed, so a removal takes away the tags that it names and no other (INRIA
+/// RR-7506, section 3.3.5: Observed-Remove Set). Marks may come in any order, a removal before its
+/// tag too. The tags take memory from the third one on, and so do the removals.
 #[derive(Drop)]
 pub struct Presence<A: Allocator = Global> {
     alloc: A,
@@ -48,23 +48,25 @@ impl<A: Allocator> Presence<A> {
         }
     }
 
-    /// Tags the item with a stamp. Refused only as `Memory` (0), where an allocation failed; the presence is then
-    /// unchanged.
+    /// Tags the item with a stamp. Refused only as `Memory` (0), where an allocation failed; the
+    /// presence is then unchanged.
     pub fn add_tag(&mut self, stamp: Stamp) -> Result<(), CellFault>
     where
         A: Clone,
-        ensures tagged { OnOk result (self.new ≡ record { tags = set.insert self.old.tags stamp; removed = self.old.removed }) }
+        ensures tagged { OnOk result (self.new ≡ record { tags = set.insert self.old.tags stamp;
+            removed = self.old.removed }) }
         ensures kept { OnErr result (self.new ≡ self.old) }
     {
         self.tags.insert(&self.alloc, stamp)
     }
 
-    /// Removes the tag of a stamp, which may come later. Refused only as `Memory` (0), where an allocation failed; the
-    /// presence is then unchanged.
+    /// Removes the tag of a stamp, which may come later. Refused only as `Memory` (0), where an
+    /// allocation failed; the presence is then unchanged.
     pub fn remove_tag(&mut self, stamp: Stamp) -> Result<(), CellFault>
     where
         A: Clone,
-        ensures removed { OnOk result (self.new ≡ record { tags = self.old.tags; removed = set.insert self.old.removed stamp }) }
+        ensures removed { OnOk result (self.new ≡ record { tags = self.old.tags; removed =
+            set.insert self.old.removed stamp }) }
         ensures kept { OnErr result (self.new ≡ self.old) }
     {
         self.removed.insert(&self.alloc, stamp)
@@ -84,13 +86,14 @@ impl<A: Allocator> Presence<A> {
         !self.tags.is_subset(&self.removed)
     }
 
-    /// The live tags, each once, from the least stamp to the greatest. Refused only as `Memory` (0), where an allocation
-    /// failed.
+    /// The live tags, each once, from the least stamp to the greatest. Refused only as `Memory`
+    /// (0), where an allocation failed.
     pub fn live_tags(&self) -> Result<Vec<Stamp, A>, CellFault>
     where
         A: Clone,
         ensures rising { IfOk result (λ tags. IsStrictlySortedBy stamp_cmp tags.items) }
-        ensures live { IfOk result (λ tags. (stamp : Stamp) → is_in (eq_by_cmp stamp_cmp) tags.items stamp ≡ is_live self.now stamp) }
+        ensures live { IfOk result (λ tags. (stamp : Stamp)
+            → is_in (eq_by_cmp stamp_cmp) tags.items stamp ≡ is_live self.now stamp) }
     {
         self.tags.difference(&self.alloc, &self.removed)
     }
@@ -135,7 +138,8 @@ impl<A: Allocator> Eq for Presence<A> {
 impl<A: Allocator + Clone> Join for Presence<A> {
     ghost use Rattle.std.specs.Prelude.{true};
     ghost use Rattle.mt_cells.specs.PresenceValue.{together};
-    ghost use Rattle.mt_cells.specs.Together.{together_commutative, together_associative, together_idempotent, together_respects};
+    ghost use Rattle.mt_cells.specs.Together.{together_commutative, together_associative};
+    ghost use Rattle.mt_cells.specs.Together.{together_idempotent, together_respects};
 
     ghost joined = { together };
 

@@ -9,8 +9,8 @@ use mt_stamp::Stamp;
 use std::cmp::Ordering;
 use std::marker::Model;
 
-/// A field that many may write: it holds the greatest pair of stamp and value that was joined to it (INRIA RR-7506,
-/// section 3.2.1).
+/// A field that many may write: it holds the greatest pair of stamp and value that was joined to it
+/// (INRIA RR-7506, section 3.2.1).
 #[derive(Drop)]
 pub struct Register<T: Ord> {
     stamp: Stamp,
@@ -89,7 +89,9 @@ impl<T: Ord> Eq for Register<T> {
 impl<T: Ord + Drop> Join for Register<T> {
     ghost use Rattle.std.specs.Prelude.{false};
     ghost use Rattle.mt_stamp.specs.Written.{greater};
-    ghost use Rattle.mt_cells.specs.Greater.{written_total, greater_commutative, greater_idempotent, greater_respects, greater_associates};
+    ghost use Rattle.mt_cells.specs.Greater.{written_total, greater_commutative};
+    ghost use Rattle.mt_cells.specs.Greater.{greater_idempotent, greater_respects};
+    ghost use Rattle.mt_cells.specs.Greater.{greater_associates};
 
     ghost joined = { greater (written_cmp T.cmp) };
 

@@ -49,7 +49,8 @@ fn three<A: Allocator + Clone>(
     another: Stamp,
     third: Stamp,
 ) -> Result<BTreeSet<Stamp, A>, CellFault>
-    ensures { IfOk result (λ stamps. set.from_list {R = stamp_cmp} stamps.keys ≡ set.from_list (third ∷ another ∷ one ∷ [])) }
+    ensures { IfOk result (λ stamps. set.from_list {R = stamp_cmp} stamps.keys
+        ≡ set.from_list (third ∷ another ∷ one ∷ [])) }
 {
     let mut stamps = BTreeSet::new(alloc.clone()?);
     stamps.insert(one)?;
@@ -157,7 +158,8 @@ impl<A: Allocator> StampSet<A> {
         A: Clone,
         ensures union { OnOk result (self.new ≡ set.union self.old (set.from_list others.keys)) }
         ensures from { OnErr result (IsTrue (set.is_subset self.old self.new)) }
-        ensures to { OnErr result (IsTrue (set.is_subset self.new (set.union self.old (set.from_list others.keys)))) }
+        ensures to { OnErr result (IsTrue (set.is_subset self.new
+            (set.union self.old (set.from_list others.keys)))) }
     {
         let mut others = others;
         match &mut self.stamps {
@@ -181,12 +183,15 @@ impl<A: Allocator> StampSet<A> {
     where
         A: Clone,
         ensures rising { IfOk result (λ stamps. IsStrictlySortedBy stamp_cmp stamps.items) }
-        ensures members { IfOk result (λ stamps. (stamp : Stamp) → is_in (eq_by_cmp stamp_cmp) stamps.items stamp ≡ (set.contains self.now stamp && not (set.contains other.now stamp))) }
+        ensures members { IfOk result (λ stamps. (stamp : Stamp)
+            → is_in (eq_by_cmp stamp_cmp) stamps.items stamp ≡ (set.contains self.now stamp
+            && not (set.contains other.now stamp))) }
     {
         match &self.stamps {
             Inline::Nothing => Ok(Vec::new(alloc.clone()?)),
             Inline::One(one) => left_of_one(alloc, one, other),
-            // A set never keeps two equal stamps; no invariant says so, and so they would be given once.
+            // A set never keeps two equal stamps; no invariant says so, and so they would be given
+            // once.
             Inline::Two(one, another) => match one.cmp(another) {
                 Ordering::Less => left_of_two(alloc, one, another, other),
                 Ordering::Equal => left_of_one(alloc, one, other),
@@ -217,7 +222,8 @@ fn left_of_one<A: Allocator + Clone>(
     one: &Stamp,
     other: &StampSet<A>,
 ) -> Result<Vec<Stamp, A>, CellFault>
-    ensures { IfOk result (λ left. left.items ≡ filter (λ stamp. not (set.contains other.now stamp)) (one.now ∷ [])) }
+    ensures { IfOk result (λ left. left.items ≡ filter (λ stamp. not (set.contains other.now stamp))
+        (one.now ∷ [])) }
 {
     let mut left = Vec::new(alloc.clone()?);
     if !other.contains(one) {
@@ -233,7 +239,8 @@ fn left_of_two<A: Allocator + Clone>(
     another: &Stamp,
     other: &StampSet<A>,
 ) -> Result<Vec<Stamp, A>, CellFault>
-    ensures { IfOk result (λ left. left.items ≡ filter (λ stamp. not (set.contains other.now stamp)) (one.now ∷ another.now ∷ [])) }
+    ensures { IfOk result (λ left. left.items ≡ filter (λ stamp. not (set.contains other.now stamp))
+        (one.now ∷ another.now ∷ [])) }
 {
     let mut left = left_of_one(alloc, one, other)?;
     if !other.contains(another) {
@@ -249,7 +256,8 @@ fn left_of_many<A: Allocator + Clone>(
     other: &StampSet<A>,
 ) -> Result<Vec<Stamp, A>, CellFault>
     ensures rising { IfOk result (λ left. IsStrictlySortedBy stamp_cmp left.items) }
-    ensures are { IfOk result (λ left. left.items ≡ filter (λ stamp. not (set.contains other.now stamp)) stamps.now.keys) }
+    ensures are { IfOk result (λ left. left.items ≡ filter
+        (λ stamp. not (set.contains other.now stamp)) stamps.now.keys) }
 {
     let mut left = Vec::new(alloc.clone()?);
     for stamp in stamps {

@@ -5,15 +5,16 @@ use std::fs::{self, File};
 use std::os::unix::fs::MetadataExt;
 use std::rt::Files;
 
-/// The file of a log that was read, where it is OUT: what is written stands in for this file, and for no other.
+/// The file of a log that was read, where it is OUT: what is written stands in for this file, and
+/// for no other.
 #[derive(Drop)]
 pub(crate) struct ReplaceGuard {
     log: File,
 }
 
 impl ReplaceGuard {
-    /// The file of a log that was opened by its name, where OUT names it too: by the same text, or as the same file. Refused as `Write` where
-    /// the system gives no second handle of it.
+    /// The file of a log that was opened by its name, where OUT names it too: by the same text, or
+    /// as the same file. Refused as `Write` where the system gives no second handle of it.
     pub(crate) fn of<F: Files<File = File>>(
         rt: &F,
         log: &File,
@@ -29,8 +30,9 @@ impl ReplaceGuard {
         }
     }
 
-    /// Gives a part the name OUT, if OUT is still this file: under its lock, so that of two programs which began with one log one is done, and the
-    /// other is not. Answers whether it was given.
+    /// Gives a part the name OUT, if OUT is still this file: under its lock, so that of two
+    /// programs which began with one log one is done, and the other is not. Answers whether it was
+    /// given.
     pub(crate) fn rename_if_same<F: Files<File = File>>(
         &self,
         rt: &F,

@@ -117,8 +117,8 @@ fn limit<S: OpenStream>(stream: &S, wait: Option<Duration>) -> Result<(), CliFau
     }
 }
 
-// Swaps operations with the other end of a stream, which is read and written by two handles of it, and writes the log that has grown
-// into a file.
+// Swaps operations with the other end of a stream, which is read and written by two handles of it,
+// and writes the log that has grown into a file.
 fn swap<F: Files<File = File> + AllocGlobal, S: Read + Write + OpenStream + Drop>(
     rt: &F,
     opened: OpenGrowing,

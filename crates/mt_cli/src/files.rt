@@ -36,8 +36,8 @@ pub(crate) fn open<F: Files + AllocGlobal>(
     }
 }
 
-/// A file that is opened where it is first read, and closed at its end: so as many can be read, one after another, as there are. One that cannot be
-/// opened is one that cannot be read.
+/// A file that is opened where it is first read, and closed at its end: so as many can be read, one
+/// after another, as there are. One that cannot be opened is one that cannot be read.
 #[derive(Drop)]
 pub(crate) struct LazyFile<'r, 'n, F: Files> {
     rt: &'r F,

@@ -40,8 +40,8 @@ impl WriteOptions {
     }
 }
 
-/// A file that is made by the first write at the latest. One of its name that is there already is not touched, and the write fails; so does it
-/// where OUT is there and may not be.
+/// A file that is made by the first write at the latest. One of its name that is there already is
+/// not touched, and the write fails; so does it where OUT is there and may not be.
 #[derive(Drop)]
 pub(crate) struct TempFile<'a, F: Files> {
     rt: &'a F,
@@ -128,15 +128,17 @@ impl<F: Files> Write for TempFile<'_, F> {
     }
 }
 
-/// A file that is written under a name of its own, `OUT.part`, and gets the name OUT once it is whole.
+/// A file that is written under a name of its own, `OUT.part`, and gets the name OUT once it is
+/// whole.
 #[derive(Drop)]
 pub(crate) struct Part<'a, F: Files> {
     output: Latch<TempFile<'a, F>>,
 }
 
 impl<'a, F: Files> Part<'a, F> {
-    /// The part of this file, which is made by the first byte that is written into it: then nothing is made before all that a
-    /// command reads was read and accepted. Where it cannot be made the output fails.
+    /// The part of this file, which is made by the first byte that is written into it: then nothing
+    /// is made before all that a command reads was read and accepted. Where it cannot be made the
+    /// output fails.
     pub(crate) fn later(
         alloc: Global,
         rt: &'a F,
@@ -148,8 +150,9 @@ impl<'a, F: Files> Part<'a, F> {
         })
     }
 
-    /// Makes the part of this file at once. Refused as `Part` where it cannot be made, where there is something of its name, which is not
-    /// touched: it may be a log, or the part of another program that is at work; and where OUT is there and may not be.
+    /// Makes the part of this file at once. Refused as `Part` where it cannot be made, where there
+    /// is something of its name, which is not touched: it may be a log, or the part of another
+    /// program that is at work; and where OUT is there and may not be.
     pub(crate) fn create(
         alloc: Global,
         rt: &'a F,
@@ -171,10 +174,12 @@ impl<'a, F: Files> Part<'a, F> {
         &mut self.output
     }
 
-    /// Gives it the name OUT where it was written whole: what wrote it says so, its latch has not failed, it was made, and, unless that is not asked,
-    /// it is on the disk. Where OUT is a log that was read it gets the name in that file's place alone (`Base`). Takes it away where it does not get its
-    /// name, if it was made. Refused as what wrote it was, but that `Write` is told as `Part` where the file could not be made; else as `Part` where it does
-    /// not get its name, and as `Write`.
+    /// Gives it the name OUT where it was written whole: what wrote it says so, its latch has not
+    /// failed, it was made, and, unless that is not asked, it is on the disk. Where OUT is a log
+    /// that was read it gets the name in that file's place alone (`Base`). Takes it away where it
+    /// does not get its name, if it was made. Refused as what wrote it was, but that `Write` is
+    /// told as `Part` where the file could not be made; else as `Part` where it does not get its
+    /// name, and as `Write`.
     pub(crate) fn finish(
         self,
         base: Option<ReplaceGuard>,
@@ -248,7 +253,8 @@ fn named<F: Files<File = File>>(
     Err(CliFault::Write)
 }
 
-// Whether a part gets the name OUT: no other's, where OUT may not be there; that of the log that was read, where OUT is one.
+// Whether a part gets the name OUT: no other's, where OUT may not be there; that of the log that
+// was read, where OUT is one.
 fn gets_name<F: Files<File = File>>(
     rt: &F,
     name: &str,
@@ -276,7 +282,8 @@ fn is_linked<F: Files>(rt: &F, name: &str, out: &str) -> bool {
     true
 }
 
-// Has the name OUT be on the disk. That a folder cannot be synced is not told: OUT has what was done.
+// Has the name OUT be on the disk. That a folder cannot be synced is not told: OUT has what was
+// done.
 fn sync_folder<F: Files>(rt: &F, out: &str) {
     let folder = match Path::new(out).parent() {
         Some(folder) if !folder.as_str().is_empty() => folder.as_str(),

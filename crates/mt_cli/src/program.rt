@@ -19,12 +19,15 @@ use cli_words::{ABOUT, Lists, NUMBER, Words, bare, why_flag, with_all};
 use std::alloc::{AllocError, Global};
 use std::io::{Read, Write};
 
-/// Runs the words after the program's name over standard input, output and error, and answers the exit
-/// status: 0 where it is done; 1 where it is refused, and `errors` has then the line `radio: fault N` of the refusal's number, or a prefix of it where
-/// it has failed. Where `--why` is among the words before a `--`, one more line follows it, which begins with `radio: why: ` and tells the cause; and only
-/// then something may stand before it, or be told with status 0: of the meetings of `serve` that were refused, two such lines each. 2 where the words do not parse, and standard
-/// error has then the parser's text, or a prefix of it, and neither the input nor the output was asked. Help and the version go to the output with status 0. A failure of `errors` is not
-/// told.
+/// Runs the words after the program's name over standard input, output and error, and answers the
+/// exit status: 0 where it is done; 1 where it is refused, and `errors` has then the line `radio:
+/// fault N` of the refusal's number, or a prefix of it where it has failed. Where `--why` is among
+/// the words before a `--`, one more line follows it, which begins with `radio: why: ` and tells
+/// the cause; and only then something may stand before it, or be told with status 0: of the
+/// meetings of `serve` that were refused, two such lines each. 2 where the words do not parse, and
+/// standard error has then the parser's text, or a prefix of it, and neither the input nor the
+/// output was asked. Help and the version go to the output with status 0. A failure of `errors` is
+/// not told.
 pub fn command<F: Runtime, R: Read, W: Write, E: Write>(
     rt: &F,
     words: &[String],
@@ -34,7 +37,8 @@ pub fn command<F: Runtime, R: Read, W: Write, E: Write>(
 ) -> u8
     ensures status { result ≤ 2 }
     ensures done { result ≡ 0 → TellsCauses E.contents (asks_why words.now) errors.old errors.new }
-    ensures refused { result ≡ 1 → TellsRefusal E.contents (asks_why words.now) errors.old errors.new }
+    ensures refused { result ≡ 1 → TellsRefusal E.contents (asks_why words.now) errors.old
+        errors.new }
     ensures mistaken { result ≡ 2 → TellsText E.contents errors.old errors.new }
     ensures mistaken_input { result ≡ 2 → input.new ≡ input.old }
     ensures mistaken_output { result ≡ 2 → output.new ≡ output.old }
@@ -72,7 +76,8 @@ fn known(why: &Option<String>) -> &str {
     }
 }
 
-// Tells a refusal, with what is known of its cause, where the words ask for it, and answers its status.
+// Tells a refusal, with what is known of its cause, where the words ask for it, and answers its
+// status.
 fn status_of<E: Write>(words: &[String], fault: CliFault, why: &str, errors: &mut Latch<E>) -> u8
     ensures status { result ≡ 1 }
     ensures told { TellsFault E.contents (asks_why words.now) fault errors.old errors.new }

@@ -4,7 +4,8 @@ ghost use Rattle.std.specs.Prelude.{◌≡◌, ◌++◌, codes};
 ghost use Rattle.std.specs.List.{flat_map, position};
 ghost use Rattle.base_io.specs.Buffered.{Puts};
 ghost use Rattle.cli_calls.specs.Editing.{number_line};
-ghost use Rattle.mt_cli.specs.Telling.{is_word, up_to, asks_why, on_line, why_line, fault_line, HasTold};
+ghost use Rattle.mt_cli.specs.Telling.{is_word, up_to, asks_why, on_line, why_line, fault_line};
+ghost use Rattle.mt_cli.specs.Telling.{HasTold};
 
 use base_io::{BufferedLatch, Latch};
 use cli_calls::CliFault;

@@ -265,7 +265,8 @@ const OF_RENDERING: [Refusal; 4] = [
     },
 ];
 
-/// The refusals of reading and writing, of exchange, of scripts, of worlds, and of the parts of operations.
+/// The refusals of reading and writing, of exchange, of scripts, of worlds, and of the parts of
+/// operations.
 const OF_FILES_AND_PARTS: [Refusal; 16] = [
     Refusal {
         number: 37,

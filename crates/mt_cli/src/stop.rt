@@ -10,7 +10,8 @@ use std::alloc::Global;
 /// What stops the program.
 #[derive(Debug, Drop)]
 pub(crate) enum Exit {
-    /// A command was refused; beside it what is known of the cause, where that was asked for and there was memory to tell it.
+    /// A command was refused; beside it what is known of the cause, where that was asked for and
+    /// there was memory to tell it.
     Refused {
         fault: CliFault,
         why: Option<String>,

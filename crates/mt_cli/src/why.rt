@@ -19,8 +19,8 @@ use std::alloc::Global;
 use std::fs;
 use std::rt::Files;
 
-/// What is known of the cause of a refusal: of the words that a command of this name was called with, and of their files. Nothing where memory is
-/// refused.
+/// What is known of the cause of a refusal: of the words that a command of this name was called
+/// with, and of their files. Nothing where memory is refused.
 pub(crate) fn cause<F: Files + AllocGlobal>(
     rt: &F,
     name: &str,
@@ -243,7 +243,8 @@ fn operation_cause(alloc: Global, name: &str, dot: Dot) -> Option<String> {
     format!(in alloc; "log {name} operation {number}.{replica}").ok()
 }
 
-// The first log that has another operation of this name than those before it: they are read once more.
+// The first log that has another operation of this name than those before it: they are read once
+// more.
 fn conflict_cause<F: Files + AllocGlobal>(rt: &F, call: &Call<'_, '_>, dot: Dot) -> Option<String> {
     let mut first = None;
     for id in call.inputs() {
@@ -285,7 +286,8 @@ fn bytes_named<F: Files + AllocGlobal>(rt: &F, name: &str) -> Option<Vec<u8>> {
     file.get_all(rt.alloc()).ok()
 }
 
-// Why a programme cannot be mixed: a recording, of which one of another rate is named, or the log, whose programme is too long.
+// Why a programme cannot be mixed: a recording, of which one of another rate is named, or the log,
+// whose programme is too long.
 fn mix_cause<F: Files + AllocGlobal>(
     rt: &F,
     call: &Call<'_, '_>,
@@ -302,7 +304,8 @@ fn mix_cause<F: Files + AllocGlobal>(
     }
 }
 
-// A recording of another rate: its digest, its rate and its name. The recordings are read once more.
+// A recording of another rate: its digest, its rate and its name. The recordings are read once
+// more.
 fn rate_cause<F: Files + AllocGlobal>(
     rt: &F,
     call: &Call<'_, '_>,
@@ -378,7 +381,8 @@ fn script_cause(alloc: Global, name: &str, fault: ScriptFault) -> Option<String>
     }
 }
 
-// Where messages came from that are not taken: a file, or the other end of a conversation. Of `have`, whose own message is too long, the log.
+// Where messages came from that are not taken: a file, or the other end of a conversation. Of
+// `have`, whose own message is too long, the log.
 fn messages_cause(alloc: Global, call: &Call<'_, '_>) -> Option<String> {
     match call.name {
         "have" => told(alloc, "log ", call.word("LOG")),
@@ -394,7 +398,8 @@ fn either_cause(alloc: Global, left: &str, right: &str) -> Option<String> {
     format!(in alloc; "messages {left} or {right}").ok()
 }
 
-// Why operations are not taken: one of them has another's name in the log, or the messages, as where no log is named.
+// Why operations are not taken: one of them has another's name in the log, or the messages, as
+// where no log is named.
 fn sync_cause(alloc: Global, call: &Call<'_, '_>, fault: SyncFault) -> Option<String> {
     match fault {
         SyncFault::Talk(TalkFault::Conflict(dot)) if call.name != "diff" => {

@@ -13,8 +13,10 @@ pub record WriteAlike (p q : Programme) (ms : List Marker) (h : HeadText) : Type
   pub content : riff p ms h ≡ riff q ms h
   pub bytes : file p ms h ≡ file q ms h
 
--- Of the recordings only those count that are under the digests of audible clips, whatever the markers and the head.
+-- Of the recordings only those count that are under the digests of audible clips, whatever the
+-- markers and the head.
 abbrev pub OnlyAudibleAreWritten : Type 0
 OnlyAudibleAreWritten =
-    (tracks : List Track) (layout : Format) (a b : Sources) (ms : List Marker) (h : HeadText) → FindAlike tracks a b
+    (tracks : List Track) (layout : Format) (a b : Sources) (ms : List Marker) (h : HeadText)
+        → FindAlike tracks a b
     → WriteAlike (over tracks layout a) (over tracks layout b) ms h

@@ -25,9 +25,11 @@ abbrev pub Fits : Programme → List Marker → HeadText → Type 0
 Fits p ms h = length (riff p ms h) < 2 ^ 32
 
 module _ {W : Type 0} (contents : W → Option (List ℕ)) where
-  -- What refuses it: a size that does not fit, or memory, each with the output as it was; or the output has failed, and holds
-  -- a prefix of the file.
-  abbrev pub BounceFails : Programme → List Marker → HeadText → Latch W → Latch W → BounceFault → Type 0
+  -- What refuses it: a size that does not fit, or memory, each with the output as it was; or the
+  -- output has failed, and holds a prefix of the file.
+  abbrev pub BounceFails : Programme → List Marker → HeadText → Latch W → Latch W → BounceFault
+      → Type 0
   BounceFails p ms h old new Memory = Fits p ms h × (new ≡ old)
   BounceFails p ms h old new TooLong = (2 ^ 32 ≤ length (riff p ms h)) × (new ≡ old)
-  BounceFails p ms h old new Write = Fits p ms h × (new.failed ≡ true) × AppendsPrefix (contents old.inner) (contents new.inner) (file p ms h)
+  BounceFails p ms h old new Write = Fits p ms h × (new.failed ≡ true)
+      × AppendsPrefix (contents old.inner) (contents new.inner) (file p ms h)

@@ -1,7 +1,8 @@
--- The file that is written. Chunks are those of RIFF (Microsoft, "Multimedia Programming Interface and Data Specifications 1.0",
--- chapters 2 and 3), and `bext` is that of EBU Tech 3285 in version 0. Their order, and what the cue points and the coding
--- history say, is profile.
-use Rattle.std.specs.Prelude.{ℕ, zero, suc, ◌*◌, ◌-◌, ◌/◌, ◌%◌, ◌==◌, min, nat_lt, if◌then◌else◌, List, [], ◌∷◌, ◌++◌, length, replicate, codes, ℤ}
+-- The file that is written. Chunks are those of RIFF (Microsoft, "Multimedia Programming Interface
+-- and Data Specifications 1.0", chapters 2 and 3), and `bext` is that of EBU Tech 3285 in version
+-- 0. Their order, and what the cue points and the coding history say, is profile.
+use Rattle.std.specs.Prelude.{ℕ, zero, suc, ◌*◌, ◌-◌, ◌/◌, ◌%◌, ◌==◌, min, nat_lt, if◌then◌else◌}
+use Rattle.std.specs.Prelude.{List, [], ◌∷◌, ◌++◌, length, replicate, codes, ℤ}
 use Rattle.std.specs.Int.{w64}
 use Rattle.std.specs.Fmt.{decimal}
 use Rattle.std.specs.List.{filter, flat_map}
@@ -33,13 +34,16 @@ channels_word channels = if channels == 1 then codes "mono" else codes "stereo"
 
 -- the coding history: `A=PCM,F=RATE,W=BITS,M=mono` or `M=stereo`, and the end of the line
 unfoldable pub history : Format → List ℕ
-history l = codes "A=PCM,F=" ++ decimal l.rate ++ codes ",W=" ++ decimal l.bits ++ codes ",M=" ++ channels_word l.channels ++ codes "\r\n"
+history l = codes "A=PCM,F=" ++ decimal l.rate ++ codes ",W=" ++ decimal l.bits ++ codes ",M="
+    ++ channels_word l.channels ++ codes "\r\n"
 
 -- the texts of a head in their fields; a date fills its 10 bytes, and a time its 8
 unfoldable pub texts : HeadText → List ℕ
-texts h = filled 256 h.description ++ filled 32 h.originator ++ filled 32 h.reference ++ h.date ++ h.time
+texts h = filled 256 h.description ++ filled 32 h.originator ++ filled 32 h.reference ++ h.date
+    ++ h.time
 
--- The texts, the time reference with its lowest byte first, version 0, 254 bytes that version 0 reserves, and the coding history.
+-- The texts, the time reference with its lowest byte first, version 0, 254 bytes that version 0
+-- reserves, and the coding history.
 unfoldable pub bext : Format → HeadText → List ℕ
 bext l h = texts h ++ little_bytes 8 h.time_reference ++ little_bytes 2 0 ++ zeros 254 ++ history l
 
@@ -49,10 +53,12 @@ bext l h = texts h ++ little_bytes 8 h.time_reference ++ little_bytes 2 0 ++ zer
 abbrev pub block_align : Format → ℕ
 block_align l = l.channels * (l.bits / 8)
 
--- PCM, the channels, the frames a second, the bytes a second, the bytes of a frame, and the bits of a sample
+-- PCM, the channels, the frames a second, the bytes a second, the bytes of a frame, and the bits of
+-- a sample
 unfoldable pub format : Format → List ℕ
 format l =
-    little_bytes 2 1 ++ little_bytes 2 l.channels ++ little_bytes 4 l.rate ++ little_bytes 4 (l.rate * block_align l)
+    little_bytes 2 1 ++ little_bytes 2 l.channels ++ little_bytes 4 l.rate
+        ++ little_bytes 4 (l.rate * block_align l)
     ++ little_bytes 2 (block_align l) ++ little_bytes 2 l.bits
 
 -- ---- data
@@ -64,7 +70,8 @@ sample bits s = little_bytes (bits / 8) (low_bytes w64 (bits / 8) s)
 -- the samples of a frame on so many channels from one on, side by side
 unfoldable pub channels_from : Programme → ℕ → ℕ → ℕ → List ℕ
 channels_from p f c zero = []
-channels_from p f c (suc n) = sample p.layout.bits (mixed_sample p f c) ++ channels_from p f (suc c) n
+channels_from p f c (suc n) = sample p.layout.bits (mixed_sample p f c)
+    ++ channels_from p f (suc c) n
 
 -- so many frames from one on, one after another
 unfoldable pub frames_from : Programme → ℕ → ℕ → List ℕ
@@ -86,9 +93,11 @@ unfoldable pub named : (ℕ → Marker → List ℕ) → ℕ → List Marker →
 named text n [] = []
 named text n (m ∷ ms) = text n m ++ named text (suc n) ms
 
--- A cue point: its name, its position, the chunk that it points into, and where in it: 0, 0, and its frame.
+-- A cue point: its name, its position, the chunk that it points into, and where in it: 0, 0, and
+-- its frame.
 unfoldable pub point : ℕ → Marker → List ℕ
-point n m = little_bytes 4 n ++ little_bytes 4 m.at ++ codes "data" ++ little_bytes 4 0 ++ little_bytes 4 0 ++ little_bytes 4 m.at
+point n m = little_bytes 4 n ++ little_bytes 4 m.at ++ codes "data" ++ little_bytes 4 0
+    ++ little_bytes 4 0 ++ little_bytes 4 m.at
 
 -- the number of points, and each
 unfoldable pub points : List Marker → List ℕ
@@ -101,23 +110,28 @@ label_content n m = little_bytes 4 n ++ m.title ++ zeros 1
 unfoldable pub label : ℕ → Marker → List ℕ
 label n m = padded (record { id = codes "labl"; content = label_content n m })
 
--- The content of a region: its cue point's name, the marker's length, which is cut at the end, in samples of one channel,
--- the purpose, and zeros for the country, the language, the dialect and the code page (profile).
+-- The content of a region: its cue point's name, the marker's length, which is cut at the end, in
+-- samples of one channel, the purpose, and zeros for the country, the language, the dialect and the
+-- code page (profile).
 unfoldable pub region_content : ℕ → ℕ → Marker → List ℕ
-region_content end n m = little_bytes 4 n ++ little_bytes 4 (min m.len (end - m.at)) ++ codes "rgn " ++ zeros 8
+region_content end n m = little_bytes 4 n ++ little_bytes 4 (min m.len (end - m.at)) ++ codes "rgn "
+    ++ zeros 8
 
 -- a marker of length 0 has none
 unfoldable pub region : ℕ → ℕ → Marker → List ℕ
-region end n m = if m.len == 0 then [] else padded (record { id = codes "ltxt"; content = region_content end n m })
+region end n m = if m.len == 0 then [] else padded
+    (record { id = codes "ltxt"; content = region_content end n m })
 
--- the type of the list, a chunk `labl` for each point, and behind them a chunk `ltxt` for each that has a length
+-- the type of the list, a chunk `labl` for each point, and behind them a chunk `ltxt` for each that
+-- has a length
 unfoldable pub list_content : ℕ → List Marker → List ℕ
 list_content end ms = codes "adtl" ++ named label 1 ms ++ named (region end) 1 ms
 
 -- with no marker neither of the two chunks is written
 abbrev pub marker_chunks : ℕ → List Marker → List Chunk
 marker_chunks end [] = []
-marker_chunks end (m ∷ ms) = record { id = codes "cue "; content = points (m ∷ ms) } ∷ record { id = codes "LIST"; content = list_content end (m ∷ ms) } ∷ []
+marker_chunks end (m ∷ ms) = record { id = codes "cue "; content = points (m ∷ ms) }
+    ∷ record { id = codes "LIST"; content = list_content end (m ∷ ms) } ∷ []
 
 -- ---- the file
 

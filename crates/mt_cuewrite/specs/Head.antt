@@ -1,5 +1,7 @@
--- The head of a written file: what its broadcast extension says (EBU Tech 3285, section 2), and which texts it takes (profile).
-use Rattle.std.specs.Prelude.{ℕ, Bool, true, false, not, ◌&&◌, ◌==◌, nat_le, if◌then◌else◌, List, [], ◌∷◌, length, codes, Option, Some, None}
+-- The head of a written file: what its broadcast extension says (EBU Tech 3285, section 2), and
+-- which texts it takes (profile).
+use Rattle.std.specs.Prelude.{ℕ, Bool, true, false, not, ◌&&◌, ◌==◌, nat_le, if◌then◌else◌, List}
+use Rattle.std.specs.Prelude.{[], ◌∷◌, length, codes, Option, Some, None}
 use Rattle.std.specs.List.{list_all}
 
 -- texts as bytes, and the number of samples from midnight to the first
@@ -19,7 +21,8 @@ is_printing byte = nat_le 32 byte && nat_le byte 126
 abbrev pub is_text : ℕ → List ℕ → Bool
 is_text size text = nat_le (length text) size && list_all is_printing text
 
--- Whether a text is of a form: `d` in the form stands for any digit, and every other byte for itself.
+-- Whether a text is of a form: `d` in the form stands for any digit, and every other byte for
+-- itself.
 abbrev pub is_form_byte : ℕ → ℕ → Bool
 is_form_byte form byte = if form == 100 then nat_le 48 byte && nat_le byte 57 else byte == form
 

@@ -1,5 +1,6 @@
 -- The sizes of what is written, as they are counted: no definition of the subject.
-use Rattle.std.specs.Prelude.{◌≡◌, ℕ, ◌+◌, ◌*◌, ◌%◌, ◌^◌, ◌<◌, ◌==◌, if◌then◌else◌, List, length, min}
+use Rattle.std.specs.Prelude.{◌≡◌, ℕ, ◌+◌, ◌*◌, ◌%◌, ◌^◌, ◌<◌, ◌==◌, if◌then◌else◌, List, length}
+use Rattle.std.specs.Prelude.{min}
 use Rattle.mt_sessionview.specs.SessionValue.{Marker}
 use Rattle.mt_render.specs.Mix.{Programme, length_of}
 use Rattle.mt_cuewrite.specs.Head.{HeadText}
@@ -12,12 +13,14 @@ padded_size n = 8 + n + n % 2
 
 -- the chunks of so many markers, whose list has so many bytes, or the limit where that is less
 abbrev pub marks_size : ℕ → ℕ → ℕ
-marks_size n size = if n == 0 then 0 else (if size == 2 ^ 32 then 2 ^ 32 else min (2 ^ 32) (padded_size (4 + 24 * n) + padded_size size))
+marks_size n size = if n == 0 then 0 else (if size == 2 ^ 32 then 2 ^ 32 else min (2 ^ 32)
+    (padded_size (4 + 24 * n) + padded_size size))
 
 -- the sizes of a file that fits
 pub record AreSizes (p : Programme) (ms : List Marker) (h : HeadText) (s : Sizes) : Type 0 where
   pub samples_size : s.samples ≡ length (samples p)
   pub marker_count : s.markers ≡ length (before (length_of p.tracks) ms)
-  pub list_size : s.list ≡ length (list_content (length_of p.tracks) (before (length_of p.tracks) ms))
+  pub list_size : s.list ≡ length (list_content (length_of p.tracks)
+      (before (length_of p.tracks) ms))
   pub riff_size : s.riff ≡ length (riff p ms h)
   pub riff_fits : length (riff p ms h) < 2 ^ 32

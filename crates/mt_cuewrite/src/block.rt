@@ -1,6 +1,7 @@
 //! The samples, block by block.
 
-ghost use Rattle.std.specs.Prelude.{◌≡◌, ℕ, ◌++◌, drop, ◌+◌, ◌*◌, ◌/◌, ◌%◌, ◌<◌, ◌≤◌, ◌^◌, length, slice_index_or, pos};
+ghost use Rattle.std.specs.Prelude.{◌≡◌, ℕ, ◌++◌, drop, ◌+◌, ◌*◌, ◌/◌, ◌%◌, ◌<◌, ◌≤◌, ◌^◌, length};
+ghost use Rattle.std.specs.Prelude.{slice_index_or, pos};
 ghost use Rattle.std.specs.List.{flat_map};
 ghost use Rattle.mt_render.specs.Mix.{length_of, mixed_sample};
 ghost use Rattle.base_io.specs.Buffered.{Puts};

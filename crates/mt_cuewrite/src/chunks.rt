@@ -3,7 +3,8 @@
 ghost use Rattle.std.specs.Prelude.{◌≡◌, ◌<◌, ◌≤◌, ◌+◌, length, codes};
 ghost use Rattle.std.specs.Fmt.{decimal};
 ghost use Rattle.base_io.specs.Buffered.{Puts};
-ghost use Rattle.mt_cuewrite.specs.File.{padded, channels_word, history, texts, bext, format as format_content};
+ghost use Rattle.mt_cuewrite.specs.File.{padded, channels_word, history, texts, bext};
+ghost use Rattle.mt_cuewrite.specs.File.{format as format_content};
 
 use crate::head::Head;
 use crate::put::{put_chunk_head, put_filled, put_pad, put_u16, put_u32, put_u64, put_zeros};
@@ -83,7 +84,8 @@ fn put_extension<W: Write>(output: &mut BufferedLatch<'_, W>, format: Format, he
 
 /// Puts the chunk `bext`.
 pub(crate) fn put_bext<W: Write>(output: &mut BufferedLatch<'_, W>, format: Format, head: &Head<'_>)
-    ensures { Puts W.contents output.old output.new (padded (record { id = codes "bext"; content = bext format head.now })) }
+    ensures { Puts W.contents output.old output.new (padded
+        (record { id = codes "bext"; content = bext format head.now })) }
 {
     let size = bext_size(format, head);
     put_chunk_head(output, b"bext", size);
@@ -106,7 +108,8 @@ fn put_numbers<W: Write>(output: &mut BufferedLatch<'_, W>, format: Format)
 
 /// Puts the chunk `fmt `.
 pub(crate) fn put_format<W: Write>(output: &mut BufferedLatch<'_, W>, format: Format)
-    ensures { Puts W.contents output.old output.new (padded (record { id = codes "fmt "; content = format_content format })) }
+    ensures { Puts W.contents output.old output.new (padded
+        (record { id = codes "fmt "; content = format_content format })) }
 {
     put_chunk_head(output, b"fmt ", 16);
     put_numbers(output, format);

@@ -8,7 +8,8 @@ use thiserror::Error;
 /// Why a head is not made.
 #[derive(Clone, Copy, Debug, PartialEq, Eq, Error)]
 pub enum HeadFault {
-    /// The first text that is not taken: 1 the description, 2 the originator, 3 the reference, 4 the date, 5 the time.
+    /// The first text that is not taken: 1 the description, 2 the originator, 3 the reference, 4
+    /// the date, 5 the time.
     #[error("text {0} of the head cannot be written")]
     BadHead(u8),
 }

@@ -1,10 +1,12 @@
 //! The file.
 
-ghost use Rattle.std.specs.Prelude.{◌≡◌, ◌+◌, ◌*◌, ◌^◌, ◌<◌, ◌≤◌, true, false, length, IfErr, OnOk, codes};
+ghost use Rattle.std.specs.Prelude.{◌≡◌, ◌+◌, ◌*◌, ◌^◌, ◌<◌, ◌≤◌, true, false, length, IfErr, OnOk};
+ghost use Rattle.std.specs.Prelude.{codes};
 ghost use Rattle.std.specs.Io.KnownBytes.{Appends};
 ghost use Rattle.mt_render.specs.Mix.{length_of};
 ghost use Rattle.mt_cuewrite.specs.Faults.{Fits, BounceFails};
-ghost use Rattle.mt_cuewrite.specs.File.{before, list_content, marker_chunks, padded, riff, samples as all_samples, file};
+ghost use Rattle.mt_cuewrite.specs.File.{before, list_content, marker_chunks, padded, riff};
+ghost use Rattle.mt_cuewrite.specs.File.{samples as all_samples, file};
 ghost use Rattle.base_io.specs.Buffered.{Puts};
 ghost use Rattle.mt_cuewrite.specs.Sizes.{AreSizes};
 ghost use Rattle.std.specs.List.{flat_map};
@@ -31,7 +33,8 @@ fn put_data<A: Allocator, W: Write>(
 )
     requires size { size ≡ length (all_samples mix.now) }
     requires room { length room.old ≡ 8192 }
-    ensures { Puts W.contents output.old output.new (padded (record { id = codes "data"; content = all_samples mix.now })) }
+    ensures { Puts W.contents output.old output.new (padded
+        (record { id = codes "data"; content = all_samples mix.now })) }
 {
     put_chunk_head(output, b"data", size);
     put_samples(output, mix, room);
@@ -48,7 +51,8 @@ fn put_marks<A: Allocator, W: Write>(
     requires few { 4 + 24 * length (before end markers.now) < 2 ^ 32 }
     requires count { sizes.markers ≡ length (before end markers.now) }
     requires size { sizes.list ≡ length (list_content end (before end markers.now)) }
-    ensures { Puts W.contents output.old output.new (flat_map padded (marker_chunks end (before end markers.now))) }
+    ensures { Puts W.contents output.old output.new (flat_map padded
+        (marker_chunks end (before end markers.now))) }
 {
     if sizes.markers > 0 {
         put_cue(output, end, markers, sizes.markers);
@@ -77,15 +81,17 @@ fn put_file<A: Allocator, B: Allocator, W: Write>(
     put_marks(output, mix.length(), markers, sizes);
 }
 
-/// Looks whether the file of a mix, of markers and of a head can be written, as `bounce` does first. Refused only as `TooLong` (35), where the size of
-/// the RIFF chunk is over 4,294,967,295 bytes. Takes no memory, and no time but that of a walk over the markers.
+/// Looks whether the file of a mix, of markers and of a head can be written, as `bounce` does
+/// first. Refused only as `TooLong` (35), where the size of the RIFF chunk is over 4,294,967,295
+/// bytes. Takes no memory, and no time but that of a walk over the markers.
 pub fn check_size<A: Allocator, B: Allocator>(
     mix: &Mix<'_, '_, A>,
     markers: &[MarkerView<B>],
     head: &Head<'_>,
 ) -> Result<(), BounceFault>
     ensures fits { OnOk result (Fits mix.now markers.now head.now) }
-    ensures err { IfErr result (λ fault. (fault ≡ BounceFault.TooLong) × (2 ^ 32 ≤ length (riff mix.now markers.now head.now))) }
+    ensures err { IfErr result (λ fault. (fault ≡ BounceFault.TooLong)
+        × (2 ^ 32 ≤ length (riff mix.now markers.now head.now))) }
 {
     match sizes_of(mix, markers, head) {
         Some(_) => Ok(()),
@@ -93,17 +99,19 @@ pub fn check_size<A: Allocator, B: Allocator>(
     }
 }
 
-/// Writes the file of a mix, of markers and of a head, and nothing else. Markers that stand at the programme's end or behind it
-/// are left out; the others are cue points in the order of the slice, named 1, 2 and so on. One of a length that is not 0 is a
-/// region too, whose length is cut at the programme's end.
+/// Writes the file of a mix, of markers and of a head, and nothing else. Markers that stand at the
+/// programme's end or behind it are left out; the others are cue points in the order of the slice,
+/// named 1, 2 and so on. One of a length that is not 0 is a region too, whose length is cut at the
+/// programme's end.
 ///
-/// Refused, in this order: `TooLong` (35) where the size of the RIFF chunk is over 4,294,967,295 bytes, and `Memory` (0) where the
-/// room for a block of samples, its one growth, was refused, each with nothing written; then `Write` (37) where the output's latch
-/// has failed, which then holds a prefix of the file.
+/// Refused, in this order: `TooLong` (35) where the size of the RIFF chunk is over 4,294,967,295
+/// bytes, and `Memory` (0) where the room for a block of samples, its one growth, was refused, each
+/// with nothing written; then `Write` (37) where the output's latch has failed, which then holds a
+/// prefix of the file.
 ///
-/// The output is given pieces of at most 24,576 bytes, a block of 4,096 frames at a time. The memory is 32,768 bytes, whatever the
-/// length is; the time is that of the mix, and of one walk over the markers for their points, their labels, their regions and their
-/// sizes each.
+/// The output is given pieces of at most 24,576 bytes, a block of 4,096 frames at a time. The
+/// memory is 32,768 bytes, whatever the length is; the time is that of the mix, and of one walk
+/// over the markers for their points, their labels, their regions and their sizes each.
 #[tactic(auto, unfolding(base_io::specs::Buffered::Puts))]
 pub fn bounce<A: Allocator, B: Allocator, W: Write>(
     alloc: A,
@@ -112,10 +120,12 @@ pub fn bounce<A: Allocator, B: Allocator, W: Write>(
     head: &Head<'_>,
     output: &mut Latch<W>,
 ) -> Result<(), BounceFault>
-    ensures ok { OnOk result (Appends (W.contents output.old.inner) (W.contents output.new.inner) (file mix.now markers.now head.now)) }
+    ensures ok { OnOk result (Appends (W.contents output.old.inner) (W.contents output.new.inner)
+        (file mix.now markers.now head.now)) }
     ensures fits { OnOk result (Fits mix.now markers.now head.now) }
     ensures sound { OnOk result (output.new.failed ≡ false) }
-    ensures err { IfErr result (BounceFails W.contents mix.now markers.now head.now output.old output.new) }
+    ensures err { IfErr result (BounceFails W.contents mix.now markers.now head.now output.old
+        output.new) }
     ensures stays_failed { output.old.failed ≡ true → output.new ≡ output.old }
     ensures no_read { output.new.reads_left ≡ output.old.reads_left }
 {

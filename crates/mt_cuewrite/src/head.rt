@@ -25,9 +25,12 @@ impl<'h> Model for Head<'h> {
 
     ghost Value = { HeadText };
 
-    ghost view = { λ h. record { description = h.description.now; originator = h.originator.now; reference = h.reference.now; date = h.date.now; time = h.time.now; time_reference = h.time_reference } };
+    ghost view = { λ h. record { description = h.description.now; originator = h.originator.now;
+        reference = h.reference.now; date = h.date.now; time = h.time.now; time_reference = h.time_reference } };
 
-    ghost invariant = { λ h. bad_text (record { description = h.description.now; originator = h.originator.now; reference = h.reference.now; date = h.date.now; time = h.time.now; time_reference = h.time_reference }) ≡ None };
+    ghost invariant = { λ h. bad_text (record { description = h.description.now; originator =
+        h.originator.now; reference = h.reference.now; date = h.date.now; time = h.time.now;
+        time_reference = h.time_reference }) ≡ None };
 }
 
 // Whether a byte is a printing character of ASCII, or a space.
@@ -78,11 +81,13 @@ fn is_form(form: &[u8], text: &[u8]) -> bool
 }
 
 impl<'h> Head<'h> {
-    /// A head of its texts and of the number of frames from midnight to the first frame. Takes no memory.
+    /// A head of its texts and of the number of frames from midnight to the first frame. Takes no
+    /// memory.
     ///
-    /// Refused as `BadHead` (36) with the number of the first text that is not taken: 1 a description of over 256 bytes, 2 an
-    /// originator of over 32, 3 a reference of over 32, each also where a byte is not from 0x20 to 0x7E; 4 a date that is not
-    /// `dddd-dd-dd` and 5 a time that is not `dd:dd:dd`, d a digit. The calendar is not checked.
+    /// Refused as `BadHead` (36) with the number of the first text that is not taken: 1 a
+    /// description of over 256 bytes, 2 an originator of over 32, 3 a reference of over 32, each
+    /// also where a byte is not from 0x20 to 0x7E; 4 a date that is not `dddd-dd-dd` and 5 a time
+    /// that is not `dd:dd:dd`, d a digit. The calendar is not checked.
     pub fn new(
         description: &'h str,
         originator: &'h str,
@@ -91,9 +96,11 @@ impl<'h> Head<'h> {
         time: &'h str,
         time_reference: u64,
     ) -> Result<Head<'h>, HeadFault>
-        ensures value { IfOk result (λ h. h ≡ record { description = description.now; originator = originator.now; reference = reference.now; date = date.now; time = time.now; time_reference = time_reference }) }
+        ensures value { IfOk result (λ h. h ≡ record { description = description.now; originator =
+            originator.now; reference = reference.now; date = date.now; time = time.now; time_reference = time_reference }) }
         ensures ok { IfOk result (λ h. bad_text h ≡ None) }
-        ensures err { IfErr result (IsBadHead (record { description = description.now; originator = originator.now; reference = reference.now; date = date.now; time = time.now; time_reference = time_reference })) }
+        ensures err { IfErr result (IsBadHead (record { description = description.now; originator =
+            originator.now; reference = reference.now; date = date.now; time = time.now; time_reference = time_reference })) }
     {
         let bad = if !is_text(256, description) {
             1

@@ -1,7 +1,9 @@
-//! A mix as a wave file with its markers as cue points: RIFF WAVE with the broadcast extension of EBU Tech 3285.
+//! A mix as a wave file with its markers as cue points: RIFF WAVE with the broadcast extension of
+//! EBU Tech 3285.
 //!
-//! A `Head` says what the file tells of itself; `bounce` writes the file of a mix, of the session's markers and of a head, piece by
-//! piece through one small buffer, whatever the programme's length is:
+//! A `Head` says what the file tells of itself; `bounce` writes the file of a mix, of the session's
+//! markers and of a head, piece by piece through one small buffer, whatever the programme's length
+//! is:
 //!
 //! ```rust
 //! use mt_bwfread::Wave;
@@ -34,9 +36,10 @@
 //! }
 //! ```
 //!
-//! Chunks stand in this order, each with a zero byte behind it where its size is odd: `bext` (the head in version 0, and the coding
-//! history), `fmt ` (PCM), `data`, and, where a marker stands before the programme's end, `cue ` and `LIST` of type `adtl` with a
-//! `labl` for each of those markers, named 1, 2 and so on, and behind these a `ltxt` for each of them that has a length.
+//! Chunks stand in this order, each with a zero byte behind it where its size is odd: `bext` (the
+//! head in version 0, and the coding history), `fmt ` (PCM), `data`, and, where a marker stands
+//! before the programme's end, `cue ` and `LIST` of type `adtl` with a `labl` for each of those
+//! markers, named 1, 2 and so on, and behind these a `ltxt` for each of them that has a length.
 //! `specs/File.antt` is that file in one definition.
 #![tactic(auto)]
 

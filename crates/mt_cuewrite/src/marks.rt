@@ -1,8 +1,10 @@
 //! The cue points, their labels and their regions.
 
-ghost use Rattle.std.specs.Prelude.{◌≡◌, ℕ, nat_lt, ◌+◌, ◌-◌, ◌*◌, ◌<◌, ◌≤◌, ◌^◌, min, length, codes};
+ghost use Rattle.std.specs.Prelude.{◌≡◌, ℕ, nat_lt, ◌+◌, ◌-◌, ◌*◌, ◌<◌, ◌≤◌, ◌^◌, min, length};
+ghost use Rattle.std.specs.Prelude.{codes};
 ghost use Rattle.base_io.specs.Buffered.{Puts};
-ghost use Rattle.mt_cuewrite.specs.File.{padded, before, point, points, label_content, label, region_content, region, list_content, named};
+ghost use Rattle.mt_cuewrite.specs.File.{padded, before, point, points, label_content, label};
+ghost use Rattle.mt_cuewrite.specs.File.{region_content, region, list_content, named};
 
 use crate::put::{put_chunk_head, put_pad, put_u32, put_zeros};
 use mt_opcodec::BufferedLatch;
@@ -167,7 +169,8 @@ fn put_regions<A: Allocator, W: Write>(
     markers: &[MarkerView<A>],
 )
     requires few { length (before end markers.now) < 2 ^ 31 }
-    ensures { Puts W.contents output.old output.new (named (region end) 1 (before end markers.now)) }
+    ensures { Puts W.contents output.old output.new (named (region end) 1 (before end markers.now))
+        }
 {
     let mut name = FIRST;
     for marker in markers {
@@ -187,7 +190,8 @@ pub(crate) fn put_cue<A: Allocator, W: Write>(
 )
     requires count { count ≡ length (before end markers.now) }
     requires few { 4 + 24 * length (before end markers.now) < 2 ^ 32 }
-    ensures { Puts W.contents output.old output.new (padded (record { id = codes "cue "; content = points (before end markers.now) })) }
+    ensures { Puts W.contents output.old output.new (padded
+        (record { id = codes "cue "; content = points (before end markers.now) })) }
 {
     put_chunk_head(output, b"cue ", 4 + 24 * count);
     put_u32(output, count);
@@ -203,7 +207,8 @@ pub(crate) fn put_list<A: Allocator, W: Write>(
 )
     requires size { size ≡ length (list_content end (before end markers.now)) }
     requires few { length (before end markers.now) < 2 ^ 31 }
-    ensures { Puts W.contents output.old output.new (padded (record { id = codes "LIST"; content = list_content end (before end markers.now) })) }
+    ensures { Puts W.contents output.old output.new (padded
+        (record { id = codes "LIST"; content = list_content end (before end markers.now) })) }
 {
     put_chunk_head(output, b"LIST", size);
     output.put(b"adtl");

@@ -29,7 +29,8 @@ pub(crate) struct Sizes {
     pub(crate) riff: u32,
 }
 
-// How many markers are written, and how long the content of `LIST` is, or the limit where that is less.
+// How many markers are written, and how long the content of `LIST` is, or the limit where that is
+// less.
 #[derive(Clone, Copy)]
 struct Marks {
     markers: u64,

@@ -73,7 +73,8 @@ third = record { stamp = by 3 11 3; act = AddTrack (Some (by 2 11 2)) (codes "c"
 pub chain_waits : after (after empty third) second ≡ kept_of [] (second ∷ third ∷ [])
 chain_waits = refl
 
-pub chain_is_released : released_by (after (after empty third) second) first ≡ first ∷ second ∷ third ∷ []
+pub chain_is_released : released_by (after (after empty third) second) first ≡ first ∷ second
+    ∷ third ∷ []
 chain_is_released = refl
 
 -- from index 1 on: the first was released before
@@ -94,7 +95,8 @@ removed = record { stamp = by 3 10 3; act = Remove (by 1 10 1) (by 1 10 1 ∷ by
 pub waits_for_its_last_tag : after (after empty news) removed ≡ kept_of (news ∷ []) (removed ∷ [])
 waits_for_its_last_tag = refl
 
-pub last_tag_releases_it : released_by (after (after empty news) removed) restored ≡ restored ∷ removed ∷ []
+pub last_tag_releases_it : released_by (after (after empty news) removed) restored ≡ restored
+    ∷ removed ∷ []
 last_tag_releases_it = refl
 
 -- ---- a wrong role: a marker has no gain, so what gives it one waits for good
@@ -122,5 +124,6 @@ tag_of_another_item = refl
 abbrev news_later : Op
 news_later = record { stamp = by 2 10 1; act = AddMarker 480 (codes "News") }
 
-pub other_clock : told (after empty news_later) (record { stamp = by 3 11 1; act = Retitle (by 1 10 1) (codes "Late") }) ≡ Held
+pub other_clock : told (after empty news_later) (record
+    { stamp = by 3 11 1; act = Retitle (by 1 10 1) (codes "Late") }) ≡ Held
 other_clock = refl

@@ -23,32 +23,40 @@ module _ {T R : Type 0} (rules : Rules T R) where
 
   abbrev pub KeysRise : List T → Type 0
   KeysRise [] = Unit {0}
-  KeysRise (t ∷ items) = AllByRecursion (λ u. stamp_cmp (rules.key t) (rules.key u) ≡ Less) items × KeysRise items
+  KeysRise (t ∷ items) = AllByRecursion (λ u. stamp_cmp (rules.key t) (rules.key u) ≡ Less) items
+      × KeysRise items
 
   -- an item put among those that wait, behind the smaller keys
   abbrev pub queued : T → List T → List T
-  queued t waiting = insert waiting (prefix_len (λ u. is_lt (stamp_cmp (rules.key u) (rules.key t))) waiting) t
+  queued t waiting = insert waiting (prefix_len (λ u. is_lt (stamp_cmp (rules.key u) (rules.key t)))
+      waiting) t
 
   -- one item more waits
   abbrev pub with_queued : Contents T → T → Contents T
-  with_queued contents t = record { released = contents.released; waiting = queued t contents.waiting }
+  with_queued contents t = record { released = contents.released; waiting = queued t
+      contents.waiting }
 
   -- all that was offered, with one item more
   abbrev pub offered_with : Contents T → T → List T
   offered_with contents t = offered (with_queued contents t)
 
-  -- What one item more makes ready, itself or an item that waits: what is ready of all that was offered, with it.
+  -- What one item more makes ready, itself or an item that waits: what is ready of all that was
+  -- offered, with it.
   abbrev pub newly_ready : Contents T → T → List T
-  newly_ready contents t = filter (is_ready rules (offered_with contents t)) (queued t contents.waiting)
+  newly_ready contents t = filter (is_ready rules (offered_with contents t))
+      (queued t contents.waiting)
 
-  -- What an item that is offered changes: what it makes ready is released, by rising key, and the rest waits.
+  -- What an item that is offered changes: what it makes ready is released, by rising key, and the
+  -- rest waits.
   abbrev pub contents_with : Contents T → T → Contents T
   contents_with contents t = record {
     released = contents.released ++ newly_ready contents t;
-    waiting = filter (λ u. not (is_ready rules (offered_with contents t) u)) (queued t contents.waiting);
+    waiting = filter (λ u. not (is_ready rules (offered_with contents t) u))
+        (queued t contents.waiting);
   }
 
-  -- What was released is what is ready of all that was offered, and what waits is held; it waits by rising key.
+  -- What was released is what is ready of all that was offered, and what waits is held; it waits by
+  -- rising key.
   pub record IsHoldBack (contents : Contents T) : Type 0 where
     pub older : AllNameOlder rules (offered contents)
     pub ready : AllByRecursion (λ t. is_ready rules (offered contents) t ≡ true) contents.released
@@ -57,13 +65,18 @@ module _ {T R : Type 0} (rules : Rules T R) where
 
   -- A hold-back to which an item with a new key is offered is one again.
   abbrev pub OfferKeepsTheRule : Type 0
-  OfferKeepsTheRule = (contents : Contents T) (t : T) → IsHoldBack contents → knows contents (rules.key t) ≡ false → NamesOlder rules t → IsHoldBack (contents_with contents t)
+  OfferKeepsTheRule = (contents : Contents T) (t : T) → IsHoldBack contents
+      → knows contents (rules.key t) ≡ false → NamesOlder rules t
+      → IsHoldBack (contents_with contents t)
 
-  -- What was offered stays offered: once an item more is offered, all that were are there, and that item, each as often as before.
+  -- What was offered stays offered: once an item more is offered, all that were are there, and that
+  -- item, each as often as before.
   abbrev pub OfferedStays : Type 0
-  OfferedStays = (contents : Contents T) (t : T) → IsPermutation (t ∷ offered contents) (offered (contents_with contents t))
+  OfferedStays = (contents : Contents T) (t : T) → IsPermutation (t ∷ offered contents)
+      (offered (contents_with contents t))
 
   -- Where the item that is offered is held, nothing is released and it alone waits with the others.
   abbrev pub HeldReleasesNothing : Type 0
-  HeldReleasesNothing = (contents : Contents T) (t : T) → IsHoldBack contents → NamesOlder rules t → is_ready rules (offered_with contents t) t ≡ false
+  HeldReleasesNothing = (contents : Contents T) (t : T) → IsHoldBack contents → NamesOlder rules t
+      → is_ready rules (offered_with contents t) t ≡ false
       → contents_with contents t ≡ with_queued contents t

@@ -7,15 +7,18 @@ use Rattle.mt_holdback.specs.Waiting.{Rules, clock_of, meets, is_ready, AllNameO
 module _ {T R : Type 0} (rules : Rules T R) where
   -- Ready is the only set that satisfies its rule.
   abbrev pub ReadyIsDefined : Type 0
-  ReadyIsDefined = (items : List T) → AllNameOlder rules items → rule.IsTheOnlyReady (clock_of rules) rules.needs (meets rules) items
+  ReadyIsDefined = (items : List T) → AllNameOlder rules items
+      → rule.IsTheOnlyReady (clock_of rules) rules.needs (meets rules) items
 
   -- What is ready among some items is ready among more.
   abbrev pub MoreIsReady : Type 0
-  MoreIsReady = (some others : List T) (t : T) → is_ready rules some t ≡ true → is_ready rules (some ++ others) t ≡ true
+  MoreIsReady = (some others : List T) (t : T) → is_ready rules some t ≡ true
+      → is_ready rules (some ++ others) t ≡ true
 
   -- An item that is held changes nothing for the others.
   abbrev pub HeldChangesNothing : Type 0
-  HeldChangesNothing = (items : List T) (t : T) → AllNameOlder rules (t ∷ items) → is_ready rules (t ∷ items) t ≡ false
+  HeldChangesNothing = (items : List T) (t : T) → AllNameOlder rules (t ∷ items)
+      → is_ready rules (t ∷ items) t ≡ false
       → AllByRecursion (λ u. is_ready rules (t ∷ items) u ≡ is_ready rules items u) items
 
   -- whether each need of an item is met by one of these
@@ -30,9 +33,12 @@ module _ {T R : Type 0} (rules : Rules T R) where
   -- no clock is smaller than an earlier one
   abbrev pub ClocksRise : List T → Type 0
   ClocksRise [] = Unit {0}
-  ClocksRise (t ∷ items) = AllByRecursion (λ u. clock_of rules t ≤ clock_of rules u) items × ClocksRise items
+  ClocksRise (t ∷ items) = AllByRecursion (λ u. clock_of rules t ≤ clock_of rules u) items
+      × ClocksRise items
 
-  -- Where all that was taken before is ready, and the others wait by rising clock, a pass takes exactly the ready ones of them.
+  -- Where all that was taken before is ready, and the others wait by rising clock, a pass takes
+  -- exactly the ready ones of them.
   abbrev pub OnePassFindsAll : Type 0
-  OnePassFindsAll = (taken waiting : List T) → AllNameOlder rules (taken ++ waiting) → AllByRecursion (λ t. is_ready rules (taken ++ waiting) t ≡ true) taken → ClocksRise waiting
+  OnePassFindsAll = (taken waiting : List T) → AllNameOlder rules (taken ++ waiting)
+      → AllByRecursion (λ t. is_ready rules (taken ++ waiting) t ≡ true) taken → ClocksRise waiting
       → passed taken waiting ≡ taken ++ filter (is_ready rules (taken ++ waiting)) waiting

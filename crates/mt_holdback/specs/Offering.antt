@@ -15,14 +15,17 @@ empty = record { released = []; waiting = [] }
 module _ {T R : Type 0} (rules : Rules T R) where
   -- what an offer answers: from where on what was released is new, or that the item is held
   abbrev pub answer : Contents T → T → Offered
-  answer contents t = cond (is_ready rules (offered_with rules contents t) t) (Ready (length contents.released)) Held
+  answer contents t = cond (is_ready rules (offered_with rules contents t) t)
+      (Ready (length contents.released)) Held
 
   -- An item was offered.
-  pub record OfferGives (before after : HoldBack T) (t : T) (result : Result Offered HoldBackFault) : Type 0 where
+  pub record OfferGives (before after : HoldBack T) (t : T) (result : Result Offered HoldBackFault)
+      : Type 0 where
     -- It is held, or what was released from an index on is new.
     pub answered : IfOk result (λ offered. offered ≡ answer before.contents t)
     -- What it makes ready is released then, and the rest waits.
-    pub kept : OnOk result (after ≡ record { contents = contents_with rules before.contents t; failed = false })
+    pub kept : OnOk result (after ≡ record { contents = contents_with rules before.contents t;
+        failed = false })
     -- What it makes ready rises by key.
     pub rising : OnOk result (KeysRise rules (newly_ready rules before.contents t))
     -- It is refused as failed exactly where the hold-back had failed, which changes nothing.

@@ -7,8 +7,10 @@ use Rattle.mt_holdback.specs.HoldBack.{Contents}
 module _ {T R : Type 0} (rules : Rules T R) where
   abbrev pub left : List T → List T → List T
   left taken [] = []
-  left taken (t ∷ waiting) = cond (is_met_by rules taken t) (left (taken ++ t ∷ []) waiting) (t ∷ left taken waiting)
+  left taken (t ∷ waiting) = cond (is_met_by rules taken t) (left (taken ++ t ∷ []) waiting)
+      (t ∷ left taken waiting)
 
   -- what a pass makes of what is held
   abbrev pub after_pass : Contents T → Contents T
-  after_pass contents = record { released = passed rules contents.released contents.waiting; waiting = left contents.released contents.waiting }
+  after_pass contents = record { released = passed rules contents.released contents.waiting; waiting
+      = left contents.released contents.waiting }

@@ -1,5 +1,8 @@
--- What an offer's steps keep: what waits, each item known to lack a need or noted to be looked at. Working predicates, and no definition of the subject.
-use Rattle.std.specs.Prelude.{◌≡◌, ◌<◌, ℕ, Bool, true, false, ltb, List, [], ◌∷◌, ◌++◌, length, map, take, slice_get, Option, None, Some, IfSome, IfNone, MatchOption, IsTrue, ◌⊎◌}
+-- What an offer's steps keep: what waits, each item known to lack a need or noted to be looked at.
+-- Working predicates, and no definition of the subject.
+use Rattle.std.specs.Prelude.{◌≡◌, ◌<◌, ℕ, Bool, true, false, ltb, List, [], ◌∷◌, ◌++◌, length, map}
+use Rattle.std.specs.Prelude.{take, slice_get, Option, None, Some, IfSome, IfNone, MatchOption}
+use Rattle.std.specs.Prelude.{IsTrue, ◌⊎◌}
 use Rattle.std.specs.List.{AllByRecursion, list_all, list_any}
 use Rattle.std.specs.List.Sorted.{IsStrictlySortedBy}
 use Rattle.std.specs.BTreeMap.{get}
@@ -10,7 +13,8 @@ use Rattle.base_stampmap.specs.Index.{Finds}
 use Rattle.base_stampmap.specs.declared.index.StampIndex.{StampIndex}
 use Rattle.mt_holdback.specs.Waiting.{Rules, NamesOlder, meets, is_ready}
 use Rattle.mt_holdback.specs.Laws.{is_met_by}
-use Rattle.mt_holdback.specs.HoldBack.{Contents, KeysRise, knows, with_queued, offered_with, newly_ready, contents_with, IsHoldBack}
+use Rattle.mt_holdback.specs.HoldBack.{Contents, KeysRise, knows, with_queued, offered_with}
+use Rattle.mt_holdback.specs.HoldBack.{newly_ready, contents_with, IsHoldBack}
 use Rattle.mt_holdback.specs.Passing.{after_pass}
 use Rattle.mt_holdback.specs.declared.queue.Lack.{Lack}
 use Rattle.mt_holdback.specs.declared.queue.Queue.{Queue}
@@ -72,28 +76,35 @@ module _ {T R : Type 0} (rules : Rules T R) where
   MetTo released t i = list_all (is_met_in released) (take i (rules.needs t)) ≡ true
 
   -- the need at which an item stands is met by none, and the item is listed under it
-  pub record Lacks (released : List T) (lists : Stamp → Stamp → Bool) (e : Stamp × Waiter T) : Type 0 where
+  pub record Lacks (released : List T) (lists : Stamp → Stamp → Bool) (e : Stamp × Waiter T) : Type
+      0 where
     pub stamp : Stamp
     pub lacks : LacksAt released e.1.item e.1.met stamp
     pub under : lists stamp e.0 ≡ true
 
-  -- one that waits: the needs before the one at which it stands are met, and it is to be looked at or lacks that one
-  pub record Stands (released : List T) (lists : Stamp → Stamp → Bool) (woken : Stamp → Bool) (e : Stamp × Waiter T) : Type 0 where
+  -- one that waits: the needs before the one at which it stands are met, and it is to be looked at
+  -- or lacks that one
+  pub record Stands (released : List T) (lists : Stamp → Stamp → Bool) (woken : Stamp → Bool)
+      (e : Stamp × Waiter T) : Type 0 where
     pub own : e.0 ≡ rules.key e.1.item
     pub older : NamesOlder rules e.1.item
     pub fresh : list_any (λ t. stamp_eq (rules.key t) e.0) released ≡ false
     pub met : MetTo released e.1.item e.1.met
     pub waits : (woken e.0 ≡ true) ⊎ Lacks released lists e
 
-  -- each of those that were released is found by its stamp, and each of those that wait lacks a need or is to be looked at
-  pub record Works {A : Type 0} (released : List T) (places : StampIndex A) (entries : List (Stamp × Waiter T)) (lists : Stamp → Stamp → Bool) (woken : Stamp → Bool) : Type 0 where
+  -- each of those that were released is found by its stamp, and each of those that wait lacks a
+  -- need or is to be looked at
+  pub record Works {A : Type 0} (released : List T) (places : StampIndex A)
+      (entries : List (Stamp × Waiter T)) (lists : Stamp → Stamp → Bool) (woken : Stamp → Bool) :
+      Type 0 where
     pub finds : Finds (map rules.key released) places
     pub sorted : IsStrictlySortedBy stamp_cmp (keys_of entries)
     pub each : AllByRecursion (Stands released lists woken) entries
 
   -- the queue of what waits beside those that were released
   abbrev pub IsQueueOf : {A : Type 0} → List T → Queue T A → Type 0
-  IsQueueOf released queue = Works released queue.places queue.items.entries (is_under queue) (is_woken queue)
+  IsQueueOf released queue = Works released queue.places queue.items.entries (is_under queue)
+      (is_woken queue)
 
   -- What is held and its queue, before or after an offer.
   pub record InOrder {A : Type 0} (released : List T) (queue : Option (Queue T A)) : Type 0 where
@@ -110,14 +121,17 @@ module _ {T R : Type 0} (rules : Rules T R) where
     pub told : IsTrue is_met → is_met_by rules contents.released t ≡ true
 
   -- One item more was released, or put into the queue.
-  pub record Admitted {A : Type 0} (contents : Contents T) (t : T) (released : List T) (queue : Queue T A) : Type 0 where
+  pub record Admitted {A : Type 0} (contents : Contents T) (t : T) (released : List T)
+      (queue : Queue T A) : Type 0 where
     -- The queue is of what waits.
     pub works : IsQueueOf released queue
     -- A pass makes of it what it would with the item among those that wait.
-    pub passes : after_pass rules (contents_of released (Some queue)) ≡ after_pass rules (with_queued rules contents t)
+    pub passes : after_pass rules (contents_of released (Some queue))
+        ≡ after_pass rules (with_queued rules contents t)
 
   -- An item was taken in.
-  pub record TakenIn {A : Type 0} (contents : Contents T) (t : T) (released : List T) (queue : Queue T A) : Type 0 where
+  pub record TakenIn {A : Type 0} (contents : Contents T) (t : T) (released : List T)
+      (queue : Queue T A) : Type 0 where
     -- What it makes ready is released, and the rest waits.
     pub kept : contents_of released (Some queue) ≡ contents_with rules contents t
     -- That is in order again.
@@ -125,7 +139,8 @@ module _ {T R : Type 0} (rules : Rules T R) where
     -- What it makes ready rises by key.
     pub rising : KeysRise rules (newly_ready rules contents t)
     -- More was released exactly where the item is ready.
-    pub ready : ltb (length contents.released) (length released) ≡ is_ready rules (offered_with rules contents t) t
+    pub ready : ltb (length contents.released) (length released)
+        ≡ is_ready rules (offered_with rules contents t) t
 
   -- the first need of an item that no item meets
   pub record FirstLack (released : List T) (t : T) (lack : Lack) : Type 0 where
@@ -134,7 +149,9 @@ module _ {T R : Type 0} (rules : Rules T R) where
 
   -- a pass over what waits goes on as if it had come to an item that it takes
   abbrev pub Takes : List T → T → List T → List T → Type 0
-  Takes released t before after = after_pass rules (record { released = released; waiting = before }) ≡ after_pass rules (record { released = released ++ t ∷ []; waiting = after })
+  Takes released t before after = after_pass rules (record
+      { released = released; waiting = before }) ≡ after_pass rules
+      (record { released = released ++ t ∷ []; waiting = after })
 
   -- a pass over these takes none
   abbrev pub NoneIsMet : List T → List T → Type 0
@@ -146,7 +163,8 @@ module _ {T R : Type 0} (rules : Rules T R) where
     pub others : AllByRecursion (λ e. stamp_eq e.0 (rules.key t) ≡ false) queue.items.entries
 
   -- An item that is ready was taken out of the queue.
-  pub record TakenOut {A : Type 0} (released : List T) (before after : Queue T A) (t : T) : Type 0 where
+  pub record TakenOut {A : Type 0} (released : List T) (before after : Queue T A) (t : T) : Type 0
+      where
     -- A pass comes to it first of all that it takes.
     pub takes : Takes released t (items_of before.items.entries) (items_of after.items.entries)
     -- No other has its key, and one less waits.
@@ -154,7 +172,8 @@ module _ {T R : Type 0} (rules : Rules T R) where
     pub shorter : length after.items.entries < length before.items.entries
 
   -- What is to be looked at was, up to the next item that is ready.
-  pub record NextIs {A : Type 0} (released : List T) (before after : Queue T A) (next : Option T) : Type 0 where
+  pub record NextIs {A : Type 0} (released : List T) (before after : Queue T A) (next : Option T) :
+      Type 0 where
     -- The queue is of what waits.
     pub works : IsQueueOf released after
     -- Where there is none, the same items wait, and the needs of none are met.

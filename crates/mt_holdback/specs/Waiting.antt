@@ -1,5 +1,5 @@
--- What is ready, of things with a stamp that need others by their stamps and in roles (causal delivery by explicit needs: INRIA
--- RR-7506, operation-based objects).
+-- What is ready, of things with a stamp that need others by their stamps and in roles (causal
+-- delivery by explicit needs: INRIA RR-7506, operation-based objects).
 use Rattle.std.specs.Prelude.{ℕ, ◌<◌, Bool, ◌&&◌, List}
 use Rattle.std.specs.List.{AllByRecursion}
 use Rattle.mt_stamp.specs.StampOrder.{Stamp, stamp_eq}

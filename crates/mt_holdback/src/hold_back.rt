@@ -36,7 +36,8 @@ impl<T: Waits, A: Allocator> Model for HoldBack<T, A> {
 
     ghost Value = { HoldBack T };
 
-    ghost view = { λ h. record { contents = contents_of h.released.items h.waiting; failed = h.failed } };
+    ghost view = { λ h. record { contents = contents_of h.released.items h.waiting; failed =
+        h.failed } };
 
     ghost invariant = { λ h. InOrder T.rules h.released.items h.waiting };
 }
@@ -76,7 +77,8 @@ impl<T: Waits + Drop, A: Allocator> HoldBack<T, A> {
         }
     }
 
-    /// The items that were released, in the order in which they were; none where the hold-back has failed.
+    /// The items that were released, in the order in which they were; none where the hold-back has
+    /// failed.
     pub fn released(&self) -> &[T]
         ensures value { result.now ≡ self.now.contents.released }
         ensures exact { IsHoldBack T.rules self.now.contents }
@@ -84,10 +86,12 @@ impl<T: Waits + Drop, A: Allocator> HoldBack<T, A> {
         self.released.as_slice()
     }
 
-    /// Offers an item, whose key has to be new, as `knows` tells. `Held` where it is not ready among all that was offered; then
-    /// nothing is released. `Ready(first)` where it is: `released` from index `first` on are the items that became ready by
-    /// it, rising by key, and all the others wait on. Refused as `Failed` (20) where the hold-back has failed, which changes
-    /// nothing, and else as `Memory` (0) where an allocation failed: then the hold-back has failed and is empty for good.
+    /// Offers an item, whose key has to be new, as `knows` tells. `Held` where it is not ready
+    /// among all that was offered; then nothing is released. `Ready(first)` where it is: `released`
+    /// from index `first` on are the items that became ready by it, rising by key, and all the
+    /// others wait on. Refused as `Failed` (20) where the hold-back has failed, which changes
+    /// nothing, and else as `Memory` (0) where an allocation failed: then the hold-back has failed
+    /// and is empty for good.
     pub fn offer(&mut self, item: T) -> Result<Offered, HoldBackFault>
     where
         A: Clone,
@@ -97,8 +101,8 @@ impl<T: Waits + Drop, A: Allocator> HoldBack<T, A> {
         self.take(item, false)
     }
 
-    /// Offers an item as `offer` does, of which it is known that each need is met by one that was released: it is ready, and none of
-    /// its needs is looked for.
+    /// Offers an item as `offer` does, of which it is known that each need is met by one that was
+    /// released: it is ready, and none of its needs is looked for.
     pub fn offer_ready(&mut self, item: T) -> Result<Offered, HoldBackFault>
     where
         A: Clone,

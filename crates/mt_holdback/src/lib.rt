@@ -1,6 +1,6 @@
-//! What waits for others, for anything that waits: an item names the items that it needs, and is ready once each of them is
-//! there, is ready, and fits the role in which it is needed (causal delivery by explicit needs: INRIA RR-7506, operation-based
-//! objects).
+//! What waits for others, for anything that waits: an item names the items that it needs, and is
+//! ready once each of them is there, is ready, and fits the role in which it is needed (causal
+//! delivery by explicit needs: INRIA RR-7506, operation-based objects).
 //!
 //! A move that comes before its marker waits for it:
 //!
@@ -27,18 +27,21 @@
 //! }
 //! ```
 //!
-//! `HoldBack` takes one item at a time and releases exactly those that became ready by it, by rising key. `Waits` is the trait of
-//! what waits, which operations implement; `laws` says what holds of every list of such items: which are ready, that more items
-//! make no ready one wait, that one which is held changes nothing for the others, and that one pass over what waits, by rising
+//! `HoldBack` takes one item at a time and releases exactly those that became ready by it, by
+//! rising key. `Waits` is the trait of what waits, which operations implement; `laws` says what
+//! holds of every list of such items: which are ready, that more items make no ready one wait, that
+//! one which is held changes nothing for the others, and that one pass over what waits, by rising
 //! clock, finds all that became ready.
 //!
-//! An offer looks at that item alone, and at those that waited for what it releases. An item whose needs are met is released at once; one
-//! that waits is listed under one stamp that it lacks, the first of its needs that is not met: as long as that stamp is missing,
-//! nothing that arrives looks at the item. Once it is there the item is looked at from that need on, since a need that was met stays
-//! met, and is listed under the next that is not. What is to be looked at is taken by rising key from a sorted set, not by calls
-//! within calls, so a chain of any length is released by one loop; and as each item needs smaller clocks alone, the keys that are
-//! taken rise. So n offers with m needs in all cost (n + m) log n, in whatever order they come. Who knows that the needs of an item
-//! are met says so (`offer_ready`), and spares the search for them.
+//! An offer looks at that item alone, and at those that waited for what it releases. An item whose
+//! needs are met is released at once; one that waits is listed under one stamp that it lacks, the
+//! first of its needs that is not met: as long as that stamp is missing, nothing that arrives looks
+//! at the item. Once it is there the item is looked at from that need on, since a need that was met
+//! stays met, and is listed under the next that is not. What is to be looked at is taken by rising
+//! key from a sorted set, not by calls within calls, so a chain of any length is released by one
+//! loop; and as each item needs smaller clocks alone, the keys that are taken rise. So n offers
+//! with m needs in all cost (n + m) log n, in whatever order they come. Who knows that the needs of
+//! an item are met says so (`offer_ready`), and spares the search for them.
 #![tactic(auto)]
 
 mod fault;

@@ -1,10 +1,12 @@
 //! One item more.
 
-ghost use Rattle.std.specs.Prelude.{◌≡◌, Some, true, false, [], IsTrue, IfOk, OnOk, MatchOption, map};
+ghost use Rattle.std.specs.Prelude.{◌≡◌, Some, true, false, [], IsTrue, IfOk, OnOk, MatchOption};
+ghost use Rattle.std.specs.Prelude.{map};
 ghost use Rattle.base_stampmap.specs.Index.{Finds};
 ghost use Rattle.mt_holdback.specs.Laws.{is_met_by};
 ghost use Rattle.mt_holdback.specs.HoldBack.{knows, with_queued};
-ghost use Rattle.mt_holdback.specs.Queue.{waiting_in, contents_of, IsQueueOf, InOrder, MayOffer, Admitted, TakenIn, FirstLack};
+ghost use Rattle.mt_holdback.specs.Queue.{waiting_in, contents_of, IsQueueOf, InOrder, MayOffer};
+ghost use Rattle.mt_holdback.specs.Queue.{Admitted, TakenIn, FirstLack};
 
 use crate::fault::HoldBackFault;
 use crate::queue::{Lack, Queue, Waiter, first_lack, put_under, release, settle};
@@ -43,7 +45,8 @@ fn hold<T: Waits + Drop, A: Allocator + Clone>(
     lack: Lack,
 ) -> Result<(), HoldBackFault>
     requires works { IsQueueOf T.rules released.now queue.old }
-    requires unknown { knows T.rules (contents_of released.now (Some queue.old)) (T.rules.key item) ≡ false }
+    requires unknown { knows T.rules (contents_of released.now (Some queue.old)) (T.rules.key item)
+        ≡ false }
     requires lacks { FirstLack T.rules released.now item lack }
     ensures works { OnOk result (IsQueueOf T.rules released.now queue.new) }
     ensures queued { OnOk result (contents_of released.now (Some queue.new)
@@ -74,8 +77,9 @@ fn lack_of<T: Waits, A: Allocator>(
     first_lack(released, places, item, 0)
 }
 
-// Releases an item whose needs are met, and wakes what waited for it; holds another back. What a pass over those that wait takes
-// and leaves from then on is what it would have with the item among them.
+// Releases an item whose needs are met, and wakes what waited for it; holds another back. What a
+// pass over those that wait takes and leaves from then on is what it would have with the item among
+// them.
 fn admit<T: Waits + Drop, A: Allocator + Clone>(
     alloc: &A,
     released: &mut Vec<T, A>,
@@ -84,7 +88,8 @@ fn admit<T: Waits + Drop, A: Allocator + Clone>(
     is_met: bool,
 ) -> Result<(), HoldBackFault>
     requires order { InOrder T.rules released.old.items (Some queue.old) }
-    requires offer { MayOffer T.rules (contents_of released.old.items (Some queue.old)) item is_met }
+    requires offer { MayOffer T.rules (contents_of released.old.items (Some queue.old)) item is_met
+        }
     ensures { OnOk result (Admitted T.rules (contents_of released.old.items (Some queue.old)) item
         released.new.items queue.new) }
 {
@@ -103,7 +108,8 @@ pub(crate) fn take_in<T: Waits + Drop, A: Allocator + Clone>(
 ) -> Result<Queue<T, A>, HoldBackFault>
     requires order { InOrder T.rules released.old.items waiting }
     requires offer { MayOffer T.rules (contents_of released.old.items waiting) item is_met }
-    ensures { IfOk result (TakenIn T.rules (contents_of released.old.items waiting) item released.new.items) }
+    ensures { IfOk result (TakenIn T.rules (contents_of released.old.items waiting) item
+        released.new.items) }
 {
     // for the proof: that it names older ones
     let _ = item.key();

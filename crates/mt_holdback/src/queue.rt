@@ -1,6 +1,8 @@
 //! What waits, each item under one stamp that it lacks.
 
-ghost use Rattle.std.specs.Prelude.{◌≡◌, ◌+◌, ◌<◌, ◌++◌, ◌||◌, is_some, ◌∷◌, [], false, true, length, IfOk, OnOk, IfSome, IfNone, MatchOption, IsTrue, None, Some, cond, map};
+ghost use Rattle.std.specs.Prelude.{◌≡◌, ◌+◌, ◌<◌, ◌++◌, ◌||◌, is_some, ◌∷◌, [], false, true};
+ghost use Rattle.std.specs.Prelude.{length, IfOk, OnOk, IfSome, IfNone, MatchOption, IsTrue, None};
+ghost use Rattle.std.specs.Prelude.{Some, cond, map};
 ghost use Rattle.std.specs.Ordering.{is_eq, is_gt};
 ghost use Rattle.std.specs.List.{list_any};
 ghost use Rattle.std.specs.BTreeMap.{get};
@@ -10,7 +12,8 @@ ghost use Rattle.mt_holdback.specs.Laws.{is_met_by};
 ghost use Rattle.mt_holdback.specs.Passing.{after_pass};
 ghost use Rattle.base_stampmap.specs.Index.{Finds};
 ghost use Rattle.mt_holdback.specs.Waiting.{meets};
-ghost use Rattle.mt_holdback.specs.Queue.{contents_of, listed, passes_at, is_met_in, MetTo, LacksAt, FirstLack, IsQueueOf, IsApart, NextIs};
+ghost use Rattle.mt_holdback.specs.Queue.{contents_of, listed, passes_at, is_met_in, MetTo};
+ghost use Rattle.mt_holdback.specs.Queue.{LacksAt, FirstLack, IsQueueOf, IsApart, NextIs};
 
 use crate::fault::HoldBackFault;
 use crate::waits::Waits;
@@ -163,7 +166,8 @@ fn keys_under<A: Allocator + Clone>(
         → listed (λ v. v.items) (get stamp_cmp lacking.old) stamp q ≡ true
         → list_any (stamp_eq q) keys.items ≡ true) }
     ensures others { OnOk result ((s : Stamp)
-        → get stamp_cmp lacking.new s ≡ cond (is_eq (stamp_cmp stamp s)) None (get stamp_cmp lacking.old s)) }
+        → get stamp_cmp lacking.new s ≡ cond (is_eq (stamp_cmp stamp s)) None
+            (get stamp_cmp lacking.old s)) }
 {
     match lacking.remove(&stamp) {
         Some(keys) => Ok(keys),
@@ -178,9 +182,11 @@ pub(crate) fn put_under<A: Allocator + Clone>(
     stamp: Stamp,
     key: Stamp,
 ) -> Result<(), HoldBackFault>
-    ensures stay { OnOk result ((s q : Stamp) → listed (λ v. v.items) (get stamp_cmp lacking.old) s q ≡ true
+    ensures stay { OnOk result ((s q : Stamp) → listed (λ v. v.items) (get stamp_cmp lacking.old) s
+        q ≡ true
         → listed (λ v. v.items) (get stamp_cmp lacking.new) s q ≡ true) }
-    ensures there { OnOk result (listed (λ v. v.items) (get stamp_cmp lacking.new) stamp key ≡ true) }
+    ensures there { OnOk result (listed (λ v. v.items) (get stamp_cmp lacking.new) stamp key ≡ true)
+        }
 {
     let mut keys = keys_under(alloc, lacking, stamp)?;
     keys.push(key)?;
@@ -214,7 +220,8 @@ fn wake<A: Allocator + Clone>(
     ensures others { OnOk result ((s q : Stamp) → stamp_eq s stamp ≡ false
         → listed (λ v. v.items) (get stamp_cmp lacking.old) s q ≡ true
         → listed (λ v. v.items) (get stamp_cmp lacking.new) s q ≡ true) }
-    ensures woken { OnOk result ((q : Stamp) → listed (λ v. v.items) (get stamp_cmp lacking.old) stamp q ≡ true
+    ensures woken { OnOk result ((q : Stamp) → listed (λ v. v.items) (get stamp_cmp lacking.old)
+        stamp q ≡ true
         → contains stamp_cmp woken.new q ≡ true) }
     ensures stay { OnOk result ((q : Stamp) → contains stamp_cmp woken.old q ≡ true
         → contains stamp_cmp woken.new q ≡ true) }
@@ -228,7 +235,8 @@ fn next_woken<A: Allocator>(woken: &mut BTreeSet<Stamp, A>) -> Option<Stamp>
     ensures least { IfSome result (λ key. (q : Stamp) → IsTrue (contains stamp_cmp woken.old q)
         → is_gt (stamp_cmp key q) ≡ false) }
     ensures removed { IfSome result (λ key. (q : Stamp)
-        → contains stamp_cmp woken.new q ≡ cond (is_eq (stamp_cmp key q)) false (contains stamp_cmp woken.old q)) }
+        → contains stamp_cmp woken.new q ≡ cond (is_eq (stamp_cmp key q)) false
+            (contains stamp_cmp woken.old q)) }
     ensures fewer { IfSome result (λ _. length woken.new.keys < length woken.old.keys) }
     ensures unchanged { IfNone result (woken.new.keys ≡ woken.old.keys) }
     ensures empty { IfNone result (length woken.old.keys ≡ 0) }
@@ -236,7 +244,8 @@ fn next_woken<A: Allocator>(woken: &mut BTreeSet<Stamp, A>) -> Option<Stamp>
     woken.pop_first()
 }
 
-// The next item that is ready, of those that are to be looked at, by rising key. The others are listed under what they lack.
+// The next item that is ready, of those that are to be looked at, by rising key. The others are
+// listed under what they lack.
 fn next_ready<T: Waits + Drop, A: Allocator + Clone>(
     alloc: &A,
     released: &[T],

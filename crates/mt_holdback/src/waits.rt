@@ -5,7 +5,8 @@ ghost use Rattle.mt_holdback.specs.Waiting.{Rules, NamesOlder};
 
 use mt_stamp::Stamp;
 
-/// What may have to wait for others: it has a stamp of its own, and needs the items of other stamps, each in a role.
+/// What may have to wait for others: it has a stamp of its own, and needs the items of other
+/// stamps, each in a role.
 pub trait Waits {
     /// What an item may be needed as.
     type Role: Drop;
@@ -22,8 +23,8 @@ pub trait Waits {
     fn need_count(&self) -> usize
         ensures { result ≡ length (rules.needs self.now) };
 
-    /// The need at place `i`, counted from 0: the stamp of the item that it needs, and the role in which it needs that one.
-    /// `None` where `i` is `need_count()` or more.
+    /// The need at place `i`, counted from 0: the stamp of the item that it needs, and the role in
+    /// which it needs that one. `None` where `i` is `need_count()` or more.
     fn need(&self, i: usize) -> Option<(Stamp, Self::Role)>
         ensures { result ≡ slice_get (rules.needs self.now) i };
 

@@ -2,7 +2,9 @@
 use Rattle.std.specs.Prelude.{Bool, true, false}
 use Rattle.mt_op.specs.declared.body.Body.{Body as BodyFields}
 use Rattle.mt_op.specs.declared.body.Body.TheVariants as body
-use Rattle.mt_op.specs.OpValue.{Body, AddTrack, MoveTrack, AddClip, MoveClip, TrimClip, SetGain, SetMute, Remove, Restore, AddMarker, MoveMarker, Retitle, SetFade, SetMarkerLength}
+use Rattle.mt_op.specs.OpValue.{Body, AddTrack, MoveTrack, AddClip, MoveClip, TrimClip, SetGain}
+use Rattle.mt_op.specs.OpValue.{SetMute, Remove, Restore, AddMarker, MoveMarker, Retitle, SetFade}
+use Rattle.mt_op.specs.OpValue.{SetMarkerLength}
 
 abbrev pub act_of : {A : Type 0} → BodyFields A → Body
 act_of (body.AddTrack after title) = AddTrack after title

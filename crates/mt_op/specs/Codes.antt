@@ -1,12 +1,15 @@
 -- By what values are told apart, where a finite map holds them.
 use Rattle.std.specs.Prelude.{◌≡◌, ℕ, Bool, List, Option, ◌⊎◌, refl}
-use Rattle.std.specs.Coded.{Coded, code_by, coded×, coded⊎, coded_ℕ, coded_bool, coded_list, coded_option}
+use Rattle.std.specs.Coded.{Coded, code_by, coded×, coded⊎, coded_ℕ, coded_bool, coded_list}
+use Rattle.std.specs.Coded.{coded_option}
 use mathlib.Core.Logic.{inl, inr}
 use Rattle.mt_stamp.specs.StampOrder.{Stamp}
 use Rattle.mt_stamp.specs.Codes.{stamp_code}
 use Rattle.mt_op.specs.Gain.{Gain}
 use Rattle.mt_op.specs.declared.digest.Digest.{Digest}
-use Rattle.mt_op.specs.OpValue.{Body, AddTrack, MoveTrack, AddClip, MoveClip, TrimClip, SetGain, SetMute, Remove, Restore, AddMarker, MoveMarker, Retitle, SetFade, SetMarkerLength, Op}
+use Rattle.mt_op.specs.OpValue.{Body, AddTrack, MoveTrack, AddClip, MoveClip, TrimClip, SetGain}
+use Rattle.mt_op.specs.OpValue.{SetMute, Remove, Restore, AddMarker, MoveMarker, Retitle, SetFade}
+use Rattle.mt_op.specs.OpValue.{SetMarkerLength, Op}
 
 abbrev Text : Type 0
 Text = List ℕ
@@ -15,7 +18,8 @@ abbrev text_code : Coded Text
 text_code = coded_list coded_ℕ
 
 abbrev ratio_code : Coded Gain
-ratio_code = code_by (ℕ × ℕ) (coded× coded_ℕ coded_ℕ) (λ g. (g.num, g.den)) (λ p. record { num = p.0; den = p.1 }) (λ _. refl)
+ratio_code = code_by (ℕ × ℕ) (coded× coded_ℕ coded_ℕ) (λ g. (g.num, g.den))
+    (λ p. record { num = p.0; den = p.1 }) (λ _. refl)
 
 abbrev digest_code : Coded Digest
 digest_code = code_by Text text_code (λ d. d.0) (λ bytes. record { 0 = bytes }) (λ _. refl)
@@ -31,7 +35,8 @@ abbrev OfSounds : Type 0
 OfSounds = (Stamp × Gain) ⊎ (Stamp × Bool)
 
 abbrev OfItems : Type 0
-OfItems = (Stamp × List Stamp) ⊎ (Stamp ⊎ ((ℕ × Text) ⊎ ((Stamp × ℕ) ⊎ ((Stamp × Text) ⊎ ((Stamp × (ℕ × ℕ)) ⊎ (Stamp × ℕ))))))
+OfItems = (Stamp × List Stamp) ⊎ (Stamp ⊎ ((ℕ × Text)
+    ⊎ ((Stamp × ℕ) ⊎ ((Stamp × Text) ⊎ ((Stamp × (ℕ × ℕ)) ⊎ (Stamp × ℕ))))))
 
 -- an act by the place of its case and its fields
 abbrev Fields : Type 0
@@ -40,7 +45,8 @@ Fields = OfTracks ⊎ (OfClips ⊎ (OfSounds ⊎ OfItems))
 abbrev fields_of : Body → Fields
 fields_of (AddTrack after title) = inl (inl (after, title))
 fields_of (MoveTrack track after) = inl (inr (track, after))
-fields_of (AddClip source track at offset len) = inr (inl (inl (source, (track, (at, (offset, len))))))
+fields_of (AddClip source track at offset len) = inr
+    (inl (inl (source, (track, (at, (offset, len))))))
 fields_of (MoveClip clip track at) = inr (inl (inr (inl (clip, (track, at)))))
 fields_of (TrimClip clip offset len) = inr (inl (inr (inr (clip, (offset, len)))))
 fields_of (SetGain item gain) = inr (inr (inl (inl (item, gain))))
@@ -50,8 +56,10 @@ fields_of (Restore item) = inr (inr (inr (inr (inl item))))
 fields_of (AddMarker at title) = inr (inr (inr (inr (inr (inl (at, title))))))
 fields_of (MoveMarker marker at) = inr (inr (inr (inr (inr (inr (inl (marker, at)))))))
 fields_of (Retitle item title) = inr (inr (inr (inr (inr (inr (inr (inl (item, title))))))))
-fields_of (SetFade clip fade_in fade_out) = inr (inr (inr (inr (inr (inr (inr (inr (inl (clip, (fade_in, fade_out))))))))))
-fields_of (SetMarkerLength marker len) = inr (inr (inr (inr (inr (inr (inr (inr (inr (marker, len)))))))))
+fields_of (SetFade clip fade_in fade_out) = inr (inr
+    (inr (inr (inr (inr (inr (inr (inl (clip, (fade_in, fade_out))))))))))
+fields_of (SetMarkerLength marker len) = inr (inr (inr
+    (inr (inr (inr (inr (inr (inr (marker, len)))))))))
 
 abbrev act_of_fields : Fields → Body
 act_of_fields (inl (inl p)) = AddTrack p.0 p.1
@@ -75,8 +83,12 @@ act_of_fields-fields_of _ = refl
 
 abbrev pub fields_code : Coded Fields
 fields_code =
-    coded⊎ (coded⊎ (coded× (coded_option stamp_code) text_code) (coded× stamp_code (coded_option stamp_code)))
-    (coded⊎ (coded⊎ (coded× digest_code (coded× stamp_code (coded× coded_ℕ (coded× coded_ℕ coded_ℕ)))) (coded⊎ (coded× stamp_code (coded× stamp_code coded_ℕ)) (coded× stamp_code (coded× coded_ℕ coded_ℕ))))
+    coded⊎ (coded⊎ (coded× (coded_option stamp_code) text_code)
+        (coded× stamp_code (coded_option stamp_code)))
+    (coded⊎ (coded⊎ (coded× digest_code (coded× stamp_code
+        (coded× coded_ℕ (coded× coded_ℕ coded_ℕ))))
+        (coded⊎ (coded× stamp_code (coded× stamp_code coded_ℕ))
+        (coded× stamp_code (coded× coded_ℕ coded_ℕ))))
     (coded⊎ (coded⊎ (coded× stamp_code ratio_code) (coded× stamp_code coded_bool))
     (coded⊎ (coded× stamp_code (coded_list stamp_code))
     (coded⊎ stamp_code
@@ -90,4 +102,5 @@ abbrev pub act_code : Coded Body
 act_code = code_by Fields fields_code fields_of act_of_fields act_of_fields-fields_of
 
 abbrev pub operation_code : Coded Op
-operation_code = code_by (Stamp × Body) (coded× stamp_code act_code) (λ o. (o.stamp, o.act)) (λ p. record { stamp = p.0; act = p.1 }) (λ _. refl)
+operation_code = code_by (Stamp × Body) (coded× stamp_code act_code) (λ o. (o.stamp, o.act))
+    (λ p. record { stamp = p.0; act = p.1 }) (λ _. refl)

@@ -1,5 +1,5 @@
--- How the digest of a recording is written (profile): the SHA-256 of its bytes (FIPS 180-4) as hex digits
--- (RFC 4648, section 8).
+-- How the digest of a recording is written (profile): the SHA-256 of its bytes (FIPS 180-4) as hex
+-- digits (RFC 4648, section 8).
 use Rattle.std.specs.Prelude.{◌≡◌, ℕ, Bool, ◌==◌, ◌&&◌, List, length}
 use Rattle.std.specs.List.{list_all}
 use Rattle.hex.specs.Hex.{encode_lower, is_hex_digit, IsBytes}

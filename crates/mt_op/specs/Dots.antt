@@ -21,8 +21,11 @@ dots_rise ops = is_sorted dot_cmp (map entry_of ops)
 abbrev pub IsAt : List Op → Dot → ℕ → Type 0
 IsAt ops dot i = (o : Op) × (slice_get ops i ≡ Some o) × (op_dot o ≡ dot)
 
--- an operation with this dot would stand at place i: smaller dots before it, and greater ones from it on
+-- an operation with this dot would stand at place i: smaller dots before it, and greater ones from
+-- it on
 pub record IsGapFor (ops : List Op) (dot : Dot) (i : ℕ) : Type 0 where
   pub in_range : i ≤ length ops
-  pub smaller_before : (k : ℕ) (o : Op) → k < i → slice_get ops k ≡ Some o → dot_cmp (op_dot o) dot ≡ Less
-  pub greater_after : (k : ℕ) (o : Op) → i ≤ k → slice_get ops k ≡ Some o → dot_cmp dot (op_dot o) ≡ Less
+  pub smaller_before : (k : ℕ) (o : Op) → k < i → slice_get ops k ≡ Some o → dot_cmp (op_dot o) dot
+      ≡ Less
+  pub greater_after : (k : ℕ) (o : Op) → i ≤ k → slice_get ops k ≡ Some o → dot_cmp dot (op_dot o)
+      ≡ Less

@@ -1,7 +1,9 @@
 -- The number of each refusal.
 use Rattle.std.specs.Prelude.{ℕ}
 use Rattle.mt_op.specs.declared.fault.OpFault.{OpFault}
-use Rattle.mt_op.specs.declared.fault.OpFault.TheVariants.{Memory, NameNotOlder, ZeroLength, BadTags, BadTitle, BadGain, BadDigest, FadeTooLong}
+use Rattle.mt_op.specs.declared.fault.OpFault.TheVariants.{Memory, NameNotOlder, ZeroLength}
+use Rattle.mt_op.specs.declared.fault.OpFault.TheVariants.{BadTags, BadTitle, BadGain, BadDigest}
+use Rattle.mt_op.specs.declared.fault.OpFault.TheVariants.{FadeTooLong}
 
 abbrev pub number_of : OpFault → ℕ
 number_of Memory = 0

@@ -13,11 +13,13 @@ use Rattle.mt_op.specs.Ready.{is_ready, IsTheOnlyReady}
 
 -- Where every operation names older ones, ready is the only set that satisfies its rule.
 abbrev pub ReadyIsDefined : Type 0
-ReadyIsDefined = (s : List Op) → AllByRecursion (λ o. IsTrue (names_are_older o)) s → IsTheOnlyReady clock_of needs meets s
+ReadyIsDefined = (s : List Op) → AllByRecursion (λ o. IsTrue (names_are_older o)) s
+    → IsTheOnlyReady clock_of needs meets s
 
 -- What is ready among some operations is ready among more of them.
 abbrev pub ReadyAmongMore : Type 0
-ReadyAmongMore = (some more : List Op) → ((o : Op) → Contains some o → Contains more o) → (o : Op) → is_ready clock_of needs meets some o ≡ true → is_ready clock_of needs meets more o ≡ true
+ReadyAmongMore = (some more : List Op) → ((o : Op) → Contains some o → Contains more o) → (o : Op)
+    → is_ready clock_of needs meets some o ≡ true → is_ready clock_of needs meets more o ≡ true
 
 -- it is one of the writes, and no write is by a greater stamp
 pub record IsLatest {X : Type 0} (ws : List (Written X)) (w : Written X) : Type 0 where
@@ -25,32 +27,49 @@ pub record IsLatest {X : Type 0} (ws : List (Written X)) (w : Written X) : Type 
   pub is : slice_get ws place ≡ Some w
   pub greatest : AllByRecursion (λ v. is_lt (stamp_cmp w.writer v.writer) ≡ false) ws
 
--- The last write of several is the one with the greatest stamp, and there is one wherever there is a write.
+-- The last write of several is the one with the greatest stamp, and there is one wherever there is
+-- a write.
 abbrev pub LatestIsGreatest : Type 0 → Type 0
-LatestIsGreatest X = ((ws : List (Written X)) (w : Written X) → latest ws ≡ Some w → IsLatest ws w) × ((ws : List (Written X)) → latest ws ≡ None → ws ≡ [])
+LatestIsGreatest X = ((ws : List (Written X)) (w : Written X) → latest ws ≡ Some w → IsLatest ws w)
+    × ((ws : List (Written X)) → latest ws ≡ None → ws ≡ [])
 
--- `make` makes the values of a field. An act writes at most one of them, and `field` tells that one and its item.
-pub record IsFieldOf {X : Type 0} (make : X → Value) (field : Stamp → Body → Option (Write X)) : Type 0 where
+-- `make` makes the values of a field. An act writes at most one of them, and `field` tells that one
+-- and its item.
+pub record IsFieldOf {X : Type 0} (make : X → Value) (field : Stamp → Body → Option (Write X)) :
+    Type 0 where
   -- what is told is written
-  pub written : (own : Stamp) (act : Body) (w : Write X) → field own act ≡ Some w → Contains (writes own act) (sets w.item (make w.value))
+  pub written : (own : Stamp) (act : Body) (w : Write X) → field own act ≡ Some w
+      → Contains (writes own act) (sets w.item (make w.value))
   -- what is written is told
-  pub only : (own : Stamp) (act : Body) (item : Stamp) (value : X) → Contains (writes own act) (sets item (make value)) → field own act ≡ Some (record { item = item; value = value })
+  pub only : (own : Stamp) (act : Body) (item : Stamp) (value : X)
+      → Contains (writes own act) (sets item (make value)) → field own act
+      ≡ Some (record { item = item; value = value })
 
--- one of the operations writes it to this item's field, and no operation with a greater stamp writes there
-pub record IsLastWrite {X : Type 0} (make : X → Value) (item : Stamp) (ops : List Op) (w : Written X) : Type 0 where
+-- one of the operations writes it to this item's field, and no operation with a greater stamp
+-- writes there
+pub record IsLastWrite {X : Type 0} (make : X → Value) (item : Stamp) (ops : List Op)
+    (w : Written X) : Type 0 where
   pub operation : Op
   pub is : Contains ops operation
   pub writer : w.writer ≡ operation.stamp
   pub value : Contains (writes operation.stamp operation.act) (sets item (make w.value))
-  pub greatest : (o : Op) (value : X) → Contains ops o → Contains (writes o.stamp o.act) (sets item (make value)) → is_lt (stamp_cmp w.writer o.stamp) ≡ false
+  pub greatest : (o : Op) (value : X) → Contains ops o
+      → Contains (writes o.stamp o.act) (sets item (make value))
+      → is_lt (stamp_cmp w.writer o.stamp) ≡ false
 
--- The last write of an item's field is by the operation with the greatest stamp of those that write there, and there is one
--- wherever an operation writes there.
-pub record LastWriteIsGreatest {X : Type 0} (make : X → Value) (field : Stamp → Body → Option (Write X)) : Type 0 where
-  pub is_last : (item : Stamp) (ops : List Op) (w : Written X) → last_write field item ops ≡ Some w → IsLastWrite make item ops w
-  pub none : (item : Stamp) (ops : List Op) → last_write field item ops ≡ None → (o : Op) (value : X) → Contains ops o → Contains (writes o.stamp o.act) (sets item (make value)) → ⊥
+-- The last write of an item's field is by the operation with the greatest stamp of those that write
+-- there, and there is one wherever an operation writes there.
+pub record LastWriteIsGreatest {X : Type 0} (make : X → Value)
+    (field : Stamp → Body → Option (Write X)) : Type 0 where
+  pub is_last : (item : Stamp) (ops : List Op) (w : Written X) → last_write field item ops ≡ Some w
+      → IsLastWrite make item ops w
+  pub none : (item : Stamp) (ops : List Op) → last_write field item ops ≡ None
+      → (o : Op) (value : X) → Contains ops o → Contains (writes o.stamp o.act)
+      (sets item (make value)) → ⊥
 
 -- The live tags of an item are listed, and it is present where one of its tags is live.
 pub record PresenceIsOfTags : Type 0 where
-  pub live : (item : Stamp) (ops : List Op) (tag : Stamp) → is_listed (live_tags item ops) tag ≡ is_live (is_listed (tags item ops)) (is_listed (removed_tags item ops)) tag
-  pub present : (item : Stamp) (ops : List Op) → IsTrue (is_present ops item) ↔ IsPresent (is_listed (tags item ops)) (is_listed (removed_tags item ops))
+  pub live : (item : Stamp) (ops : List Op) (tag : Stamp) → is_listed (live_tags item ops) tag
+      ≡ is_live (is_listed (tags item ops)) (is_listed (removed_tags item ops)) tag
+  pub present : (item : Stamp) (ops : List Op) → IsTrue (is_present ops item)
+      ↔ IsPresent (is_listed (tags item ops)) (is_listed (removed_tags item ops))

@@ -1,12 +1,17 @@
--- What an operation waits for, and what it may be waited for as (the precondition of an update: INRIA RR-7506, operation-based objects).
-use Rattle.std.specs.Prelude.{ℕ, Bool, true, false, List, [], ◌∷◌, Option, Some, None, map, nat_lt, ◌&&◌}
+-- What an operation waits for, and what it may be waited for as (the precondition of an update:
+-- INRIA RR-7506, operation-based objects).
+use Rattle.std.specs.Prelude.{ℕ, Bool, true, false, List, [], ◌∷◌, Option, Some, None, map, nat_lt}
+use Rattle.std.specs.Prelude.{◌&&◌}
 use Rattle.std.specs.List.{list_all}
 use Rattle.mt_stamp.specs.StampOrder.{Stamp}
 pub use Rattle.mt_stamp.specs.StampOrder.{stamp_eq}
 use Rattle.mt_op.specs.declared.need.Role.{Role}
-use Rattle.mt_op.specs.declared.need.Role.TheVariants.{Track, Place, Clip, Marker, Mixable, Titled, Item, TagOf}
+use Rattle.mt_op.specs.declared.need.Role.TheVariants.{Track, Place, Clip, Marker, Mixable, Titled}
+use Rattle.mt_op.specs.declared.need.Role.TheVariants.{Item, TagOf}
 use Rattle.mt_op.specs.declared.need.Need.{Need}
-use Rattle.mt_op.specs.OpValue.{Body, AddTrack, MoveTrack, AddClip, MoveClip, TrimClip, SetGain, SetMute, Remove, Restore, AddMarker, MoveMarker, Retitle, SetFade, SetMarkerLength, Op}
+use Rattle.mt_op.specs.OpValue.{Body, AddTrack, MoveTrack, AddClip, MoveClip, TrimClip, SetGain}
+use Rattle.mt_op.specs.OpValue.{SetMute, Remove, Restore, AddMarker, MoveMarker, Retitle, SetFade}
+use Rattle.mt_op.specs.OpValue.{SetMarkerLength, Op}
 
 abbrev pub need_of : Role → Stamp → Need
 need_of role stamp = record { stamp = stamp; role = role }
@@ -73,7 +78,8 @@ adds_item (AddClip source track at offset len) = true
 adds_item (AddMarker at title) = true
 adds_item _ = false
 
--- whether an operation is a tag of an item: what adds the item, under its own stamp, and each Restore of it (profile)
+-- whether an operation is a tag of an item: what adds the item, under its own stamp, and each
+-- Restore of it (profile)
 abbrev pub is_tag_of : Stamp → Stamp → Body → Bool
 is_tag_of item own (AddTrack after title) = stamp_eq own item
 is_tag_of item own (AddClip source track at offset len) = stamp_eq own item

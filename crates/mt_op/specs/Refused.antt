@@ -1,7 +1,8 @@
 -- Why a stamp and an act are no operation (profile).
 use Rattle.std.specs.Prelude.{not, Result, Ok, Err, if◌then◌else◌}
 use Rattle.mt_op.specs.declared.fault.OpFault.{OpFault}
-use Rattle.mt_op.specs.declared.fault.OpFault.TheVariants.{NameNotOlder, ZeroLength, FadeTooLong, BadTags}
+use Rattle.mt_op.specs.declared.fault.OpFault.TheVariants.{NameNotOlder, ZeroLength, FadeTooLong}
+use Rattle.mt_op.specs.declared.fault.OpFault.TheVariants.{BadTags}
 use Rattle.mt_op.specs.OpValue.{Op}
 use Rattle.mt_op.specs.Needs.{names_are_older}
 use Rattle.mt_op.specs.Valid.{length_is_good, fades_are_good, tags_are_good}

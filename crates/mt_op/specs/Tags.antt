@@ -13,4 +13,5 @@ greatest_tag_count = 65535
 
 -- from one tag to the greatest count, rising
 abbrev pub are_tags : List Stamp → Bool
-are_tags tags = (nat_le 1 (length tags) && nat_le (length tags) greatest_tag_count) && stamps_rise tags
+are_tags tags = (nat_le 1 (length tags) && nat_le (length tags) greatest_tag_count)
+    && stamps_rise tags

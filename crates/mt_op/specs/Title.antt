@@ -3,7 +3,8 @@ use Rattle.std.specs.Prelude.{ℕ, Bool, not, List, length, nat_le, ◌==◌, �
 use Rattle.std.specs.List.{list_all}
 use Rattle.std.specs.Str.{is_utf8}
 
--- neither below 0x20 nor 0x7F: in UTF-8 these bytes are the control characters of ASCII, and no part of another character
+-- neither below 0x20 nor 0x7F: in UTF-8 these bytes are the control characters of ASCII, and no
+-- part of another character
 abbrev pub is_plain : ℕ → Bool
 is_plain b = nat_le 32 b && not (b == 127)
 

@@ -7,7 +7,9 @@ use Rattle.mt_op.specs.Gain.{IsGain}
 use Rattle.mt_op.specs.Digest.{IsDigest}
 use Rattle.mt_op.specs.Tags.{are_tags}
 use Rattle.mt_op.specs.declared.value.FadeLengths.{FadeLengths}
-use Rattle.mt_op.specs.OpValue.{Body, AddTrack, MoveTrack, AddClip, MoveClip, TrimClip, SetGain, SetMute, Remove, Restore, AddMarker, MoveMarker, Retitle, SetFade, SetMarkerLength, Op}
+use Rattle.mt_op.specs.OpValue.{Body, AddTrack, MoveTrack, AddClip, MoveClip, TrimClip, SetGain}
+use Rattle.mt_op.specs.OpValue.{SetMute, Remove, Restore, AddMarker, MoveMarker, Retitle, SetFade}
+use Rattle.mt_op.specs.OpValue.{SetMarkerLength, Op}
 use Rattle.mt_op.specs.Needs.{names_are_older}
 
 -- whether a clip keeps at least one frame; no other act gives a length (profile)
@@ -22,14 +24,16 @@ longest_fade = 1048576
 
 -- whether no fade lasts longer; no other act gives any (profile)
 abbrev pub fades_are_good : Body → Bool
-fades_are_good (SetFade clip fade_in fade_out) = nat_le fade_in longest_fade && nat_le fade_out longest_fade
+fades_are_good (SetFade clip fade_in fade_out) = nat_le fade_in longest_fade
+    && nat_le fade_out longest_fade
 fades_are_good _ = true
 
 pub record AreShort (fades : FadeLengths) : Type 0 where
   pub fade_in : fades.fade_in ≤ longest_fade
   pub fade_out : fades.fade_out ≤ longest_fade
 
--- whether the tags of a Remove are in order, from one to the greatest count; no other act has any (profile)
+-- whether the tags of a Remove are in order, from one to the greatest count; no other act has any
+-- (profile)
 abbrev pub tags_are_good : Body → Bool
 tags_are_good (Remove item tags) = are_tags tags
 tags_are_good _ = true
@@ -42,7 +46,8 @@ IsFrame n = n < 2 ^ 32
 abbrev pub AreFields : Body → Type 0
 AreFields (AddTrack after title) = IfSome after IsStamp × IsTrue (is_title title)
 AreFields (MoveTrack track after) = IsStamp track × IfSome after IsStamp
-AreFields (AddClip source track at offset len) = IsDigest source × (IsStamp track × (IsFrame at × (IsFrame offset × IsFrame len)))
+AreFields (AddClip source track at offset len) = IsDigest source
+    × (IsStamp track × (IsFrame at × (IsFrame offset × IsFrame len)))
 AreFields (MoveClip clip track at) = IsStamp clip × (IsStamp track × IsFrame at)
 AreFields (TrimClip clip offset len) = IsStamp clip × (IsFrame offset × IsFrame len)
 AreFields (SetGain item gain) = IsStamp item × IsGain gain

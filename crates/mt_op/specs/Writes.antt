@@ -1,4 +1,5 @@
--- What an operation writes, and the value that the last writer gave (LWW-Register: INRIA RR-7506, section 3.2.1).
+-- What an operation writes, and the value that the last writer gave (LWW-Register: INRIA RR-7506,
+-- section 3.2.1).
 use Rattle.std.specs.Prelude.{ℕ, Bool, false, List, [], ◌∷◌, Option, Some, None, if◌then◌else◌}
 use Rattle.std.specs.List.{filter_map}
 use Rattle.mt_stamp.specs.StampOrder.{Stamp}
@@ -8,7 +9,9 @@ use Rattle.mt_op.specs.declared.digest.Digest.{Digest}
 use Rattle.mt_op.specs.declared.value.Placement.{Placement}
 use Rattle.mt_op.specs.declared.value.TrimRange.{TrimRange}
 use Rattle.mt_op.specs.declared.value.FadeLengths.{FadeLengths}
-use Rattle.mt_op.specs.OpValue.{Body, AddTrack, MoveTrack, AddClip, MoveClip, TrimClip, SetGain, SetMute, AddMarker, MoveMarker, Remove, Restore, Retitle, SetFade, SetMarkerLength, Op}
+use Rattle.mt_op.specs.OpValue.{Body, AddTrack, MoveTrack, AddClip, MoveClip, TrimClip, SetGain}
+use Rattle.mt_op.specs.OpValue.{SetMute, AddMarker, MoveMarker, Remove, Restore, Retitle, SetFade}
+use Rattle.mt_op.specs.OpValue.{SetMarkerLength, Op}
 use Rattle.mt_op.specs.Needs.{stamp_eq}
 
 -- a value of a field: the fields of tracks, of clips and of markers (profile)
@@ -60,17 +63,24 @@ op_item own _ = own
 
 -- what each act writes, `own` being the operation's stamp (profile)
 abbrev pub writes : Stamp → Body → List (Write Value)
-writes own (AddTrack after title) = sets own (TrackPlace after) ∷ sets own (Title title) ∷ sets own (GainFields unchanged) ∷ sets own (Mute false) ∷ []
+writes own (AddTrack after title) = sets own (TrackPlace after) ∷ sets own (Title title)
+    ∷ sets own (GainFields unchanged) ∷ sets own (Mute false) ∷ []
 writes own (MoveTrack track after) = sets track (TrackPlace after) ∷ []
-writes own (AddClip source track at offset len) = sets own (ClipPlace (record { track = track; at = at })) ∷ sets own (Trim (record { offset = offset; len = len })) ∷ sets own (Source source) ∷ sets own (GainFields unchanged) ∷ sets own (Mute false) ∷ sets own (Fades no_fades) ∷ []
+writes own (AddClip source track at offset len) = sets own
+    (ClipPlace (record { track = track; at = at })) ∷ sets own
+    (Trim (record { offset = offset; len = len })) ∷ sets own (Source source)
+    ∷ sets own (GainFields unchanged) ∷ sets own (Mute false) ∷ sets own (Fades no_fades) ∷ []
 writes own (MoveClip clip track at) = sets clip (ClipPlace (record { track = track; at = at })) ∷ []
-writes own (TrimClip clip offset len) = sets clip (Trim (record { offset = offset; len = len })) ∷ []
+writes own (TrimClip clip offset len) = sets clip (Trim (record { offset = offset; len = len }))
+    ∷ []
 writes own (SetGain item gain) = sets item (GainFields gain) ∷ []
 writes own (SetMute item on) = sets item (Mute on) ∷ []
-writes own (AddMarker at title) = sets own (Position at) ∷ sets own (Title title) ∷ sets own (MarkerLength 0) ∷ []
+writes own (AddMarker at title) = sets own (Position at) ∷ sets own (Title title)
+    ∷ sets own (MarkerLength 0) ∷ []
 writes own (MoveMarker marker at) = sets marker (Position at) ∷ []
 writes own (Retitle item title) = sets item (Title title) ∷ []
-writes own (SetFade clip fade_in fade_out) = sets clip (Fades (record { fade_in = fade_in; fade_out = fade_out })) ∷ []
+writes own (SetFade clip fade_in fade_out) = sets clip
+    (Fades (record { fade_in = fade_in; fade_out = fade_out })) ∷ []
 writes own (SetMarkerLength marker len) = sets marker (MarkerLength len) ∷ []
 writes own _ = []
 
@@ -169,7 +179,8 @@ module _ {X : Type 0} (field : Stamp → Body → Option (Write X)) where
   -- what an operation writes to this item's field
   abbrev pub kept : Stamp → Stamp → Option (Write X) → Option (Written X)
   kept item own None = None
-  kept item own (Some w) = if stamp_eq w.item item then Some (record { writer = own; value = w.value }) else None
+  kept item own (Some w) = if stamp_eq w.item item then Some
+      (record { writer = own; value = w.value }) else None
 
   abbrev pub written_by : Stamp → Op → Option (Written X)
   written_by item o = kept item o.stamp (field o.stamp o.act)

@@ -15,7 +15,8 @@ pub fn append_stamp<A: Allocator>(
     label: &str,
     stamp: Stamp,
 ) -> Result<(), AllocError>
-    ensures { OnOk result (string_bytes text.new ≡ string_bytes text.old ++ (label.now ++ stamp_text stamp)) }
+    ensures { OnOk result (string_bytes text.new ≡ string_bytes text.old
+        ++ (label.now ++ stamp_text stamp)) }
 {
     text.push_str(label)?;
     stamp.append_text(text)
@@ -29,7 +30,8 @@ pub fn append_digest<A: Allocator, B: Allocator>(
     label: &str,
     digest: Digest,
 ) -> Result<(), AllocError>
-    ensures { OnOk result (string_bytes text.new ≡ string_bytes text.old ++ (label.now ++ digest_text digest)) }
+    ensures { OnOk result (string_bytes text.new ≡ string_bytes text.old
+        ++ (label.now ++ digest_text digest)) }
 {
     let Ok(digits) = digest.text(alloc) else {
         return Err(AllocError);

@@ -17,27 +17,29 @@ use std::alloc::{Allocator, Global};
 /// The longest fade of a clip, in frames.
 pub const LONGEST_FADE: u32 = 1_048_576;
 
-/// What an operation does to the session. Positions and offsets are in frames, counted from 0, and each is any `u32`.
-/// An AddTrack, AddClip or AddMarker adds an item, which the operation's own stamp names from then on, and is its first
-/// tag.
+/// What an operation does to the session. Positions and offsets are in frames, counted from 0, and
+/// each is any `u32`. An AddTrack, AddClip or AddMarker adds an item, which the operation's own
+/// stamp names from then on, and is its first tag.
 #[derive(Drop)]
 #[derive_where(PartialEq, Eq)]
 pub enum Body<A: Allocator = Global> {
-    /// Adds a track at a place of its own: after the place `after`, or at the head, and before all places that were put
-    /// there with smaller stamps. The place has the operation's stamp. The track's gain is 1/1, and it is not muted.
+    /// Adds a track at a place of its own: after the place `after`, or at the head, and before all
+    /// places that were put there with smaller stamps. The place has the operation's stamp. The
+    /// track's gain is 1/1, and it is not muted.
     AddTrack {
         after: Option<Stamp>,
         title: Title<A>,
     },
-    /// Moves a track to another place of its own: after the place `after`, or at the head, and before all places that
-    /// were put there with smaller stamps. The place has the operation's stamp.
+    /// Moves a track to another place of its own: after the place `after`, or at the head, and
+    /// before all places that were put there with smaller stamps. The place has the operation's
+    /// stamp.
     MoveTrack {
         track: Stamp,
         after: Option<Stamp>,
     },
-    /// Adds a clip to a track, from frame `at` of the session on: `len` frames, at least 1, of the recording with the
-    /// digest `source`, from its frame `offset` on. The clip's gain is 1/1, it is not muted, and it has no
-    /// fades.
+    /// Adds a clip to a track, from frame `at` of the session on: `len` frames, at least 1, of the
+    /// recording with the digest `source`, from its frame `offset` on. The clip's gain is 1/1, it
+    /// is not muted, and it has no fades.
     AddClip {
         source: Digest,
         track: Stamp,
@@ -67,8 +69,8 @@ pub enum Body<A: Allocator = Global> {
         item: Stamp,
         on: bool,
     },
-    /// Removes these tags of an item: from 1 to 65,535 of them, rising. The item is absent while all its tags are
-    /// removed.
+    /// Removes these tags of an item: from 1 to 65,535 of them, rising. The item is absent while
+    /// all its tags are removed.
     Remove {
         item: Stamp,
         tags: List<Stamp, A>,
@@ -92,8 +94,9 @@ pub enum Body<A: Allocator = Global> {
         item: Stamp,
         title: Title<A>,
     },
-    /// Lets a clip fade in over its first `fade_in` frames and out over its last `fade_out`, each at most `LONGEST_FADE`; 0 is no fade. Both
-    /// may be longer than the clip, whose end then cuts them.
+    /// Lets a clip fade in over its first `fade_in` frames and out over its last `fade_out`, each
+    /// at most `LONGEST_FADE`; 0 is no fade. Both may be longer than the clip, whose end then cuts
+    /// them.
     SetFade {
         clip: Stamp,
         fade_in: u32,
@@ -108,7 +111,8 @@ pub enum Body<A: Allocator = Global> {
 
 // Whether the clock of a stamp, where there is one, is smaller than this one.
 fn is_older(stamp: Option<Stamp>, clock: u64) -> bool
-    ensures older { result ≡ list_all (λ (need : Need). nat_lt need.stamp.clock clock) (place_needs stamp) }
+    ensures older { result ≡ list_all (λ (need : Need). nat_lt need.stamp.clock clock)
+        (place_needs stamp) }
     ensures valid { IfSome stamp IsStamp }
 {
     match stamp {
@@ -225,8 +229,9 @@ impl<A: Allocator> Body<A> {
         }
     }
 
-    /// An equal body, on a clone of the allocator. Refused as `Memory` (0) where the clone of its title or its
-    /// tags gets no memory, and for nothing else: a body that has neither is never refused.
+    /// An equal body, on a clone of the allocator. Refused as `Memory` (0) where the clone of its
+    /// title or its tags gets no memory, and for nothing else: a body that has neither is never
+    /// refused.
     pub fn try_clone(&self) -> Result<Self, OpFault>
     where
         A: Clone,

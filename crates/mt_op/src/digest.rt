@@ -11,8 +11,8 @@ use base_sha256::sha256_of;
 use hex::FromHex;
 use std::alloc::Allocator;
 
-/// The SHA-256 (FIPS 180-4) of a recording's bytes, which names the recording. Digests are ordered by their
-/// bytes, compared as numbers from the first on.
+/// The SHA-256 (FIPS 180-4) of a recording's bytes, which names the recording. Digests are ordered
+/// by their bytes, compared as numbers from the first on.
 #[derive(Clone, Copy, Debug, PartialEq, Eq, PartialOrd, Ord, Hash)]
 pub struct Digest(pub [u8; 32]);
 
@@ -38,7 +38,8 @@ impl Digest {
         &self.0
     }
 
-    /// Reads a digest of 64 hex digits, each in either case. Every other text is refused as `BadDigest` (50).
+    /// Reads a digest of 64 hex digits, each in either case. Every other text is refused as
+    /// `BadDigest` (50).
     pub fn read(text: &str) -> Result<Digest, OpFault>
         ensures value { IfOk result (λ d. decode_of text.now ≡ Ok d.0) }
         ensures bad_digest { IsErrOf result OpFault.BadDigest ↔ (is_digest_text text.now ≡ false) }

@@ -7,7 +7,8 @@ ghost use Rattle.mt_op.specs.declared.fault.OpFault.TheVariants.{Memory};
 use std::alloc::AllocError;
 use thiserror::Error;
 
-/// Why an operation, or a part of one, could not be made. Each refusal has a number that never changes.
+/// Why an operation, or a part of one, could not be made. Each refusal has a number that never
+/// changes.
 #[derive(Clone, Copy, Debug, PartialEq, Eq, Error)]
 pub enum OpFault {
     #[error("out of memory")]

@@ -8,8 +8,9 @@ use mt_stamp::Dot;
 use std::alloc::Allocator;
 use std::cmp::Ordering;
 
-// Where the operation with a dot stands if the numbers of its replica have no gap: as far from the operation `met` at
-// a place as their numbers are apart. `None` where that one is of another replica, and after a guess that did not meet it.
+// Where the operation with a dot stands if the numbers of its replica have no gap: as far from the
+// operation `met` at a place as their numbers are apart. `None` where that one is of another
+// replica, and after a guess that did not meet it.
 fn next_guess(guess: Option<usize>, place: usize, met: Dot, dot: Dot) -> Option<usize> {
     if guess.is_some() || met.replica != dot.replica {
         return None;
@@ -33,13 +34,15 @@ fn next_probe(low: usize, high: usize, guess: Option<usize>) -> usize
     }
 }
 
-/// The place, counted from 0, of the operation with this dot. Where no operation has it, the error is the
-/// place at which one with this dot would go: smaller dots stand before it, and greater ones from it on. It is
-/// the slice's length where all dots are smaller. The dots have to rise, so no two operations have one dot.
+/// The place, counted from 0, of the operation with this dot. Where no operation has it, the error
+/// is the place at which one with this dot would go: smaller dots stand before it, and greater ones
+/// from it on. It is the slice's length where all dots are smaller. The dots have to rise, so no
+/// two operations have one dot.
 ///
-/// Takes no memory. Halves the slice until an operation of the dot's replica is met, and then looks where the dot stands
-/// if its replica's numbers have no gap; so it compares at most twice as many dots as the length can be halved, and a
-/// few where the numbers have no gap and the replicas are few.
+/// Takes no memory. Halves the slice until an operation of the dot's replica is met, and then looks
+/// where the dot stands if its replica's numbers have no gap; so it compares at most twice as many
+/// dots as the length can be halved, and a few where the numbers have no gap and the replicas are
+/// few.
 pub fn find_op<A: Allocator>(ops: &[Op<A>], dot: Dot) -> Result<usize, usize>
     requires { IsTrue (dots_rise ops.now) }
     ensures found { IfOk result (IsAt ops.now dot) }

@@ -6,8 +6,9 @@ ghost use Rattle.mt_op.specs.Gain.{IsGain};
 use crate::fault::OpFault;
 use std::marker::Model;
 
-/// How much louder or softer something sounds: each sample is multiplied by `num` / `den`. Gains are equal, and
-/// ordered, by `num` and then by `den`: 1/1 and 2/2 differ though they sound alike, and 1/1 comes before 1/2.
+/// How much louder or softer something sounds: each sample is multiplied by `num` / `den`. Gains
+/// are equal, and ordered, by `num` and then by `den`: 1/1 and 2/2 differ though they sound alike,
+/// and 1/1 comes before 1/2.
 #[derive(Clone, Copy, Debug, PartialEq, Eq, PartialOrd, Ord, Hash)]
 pub struct Gain {
     num: u16,
@@ -30,7 +31,8 @@ impl Gain {
     /// What sounds as it was recorded: 1/1.
     pub const UNCHANGED: Gain = Gain { num: 1, den: 1 };
 
-    /// A gain of its parts, each from 0 to 65,535. Refused as `BadGain` (44) where the divisor is 0. Takes no memory.
+    /// A gain of its parts, each from 0 to 65,535. Refused as `BadGain` (44) where the divisor is
+    /// 0. Takes no memory.
     pub fn new(num: u16, den: u16) -> Result<Gain, OpFault>
         ensures ok { IfOk result (λ gain. gain ≡ record { num = num; den = den }) }
         ensures bad_gain { IsErrOf result OpFault.BadGain ↔ (den ≡ 0) }

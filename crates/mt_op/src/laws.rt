@@ -1,5 +1,5 @@
-//! What holds of all operations and of sets of them: each law is the contract of a small function, which does
-//! nothing or only compares.
+//! What holds of all operations and of sets of them: each law is the contract of a small function,
+//! which does nothing or only compares.
 
 ghost use Rattle.std.specs.Prelude.{◌≡◌, ◌↔◌, ℕ, Bool, List, Option, IsTrue};
 ghost use Rattle.std.specs.Ordering.{nat_cmp, ordering_then};
@@ -12,7 +12,8 @@ ghost use Rattle.mt_op.specs.declared.value.FadeLengths.{FadeLengths};
 ghost use Rattle.std.specs.Cmp.Lexicographic.{slice_cmp};
 ghost use Rattle.mt_op.specs.Bodies.{act_of};
 ghost use Rattle.mt_op.specs.Writes as field;
-ghost use Rattle.mt_op.specs.Laws.{IsFieldOf, LastWriteIsGreatest, LatestIsGreatest, PresenceIsOfTags, ReadyAmongMore, ReadyIsDefined};
+ghost use Rattle.mt_op.specs.Laws.{IsFieldOf, LastWriteIsGreatest, LatestIsGreatest};
+ghost use Rattle.mt_op.specs.Laws.{PresenceIsOfTags, ReadyAmongMore, ReadyIsDefined};
 
 use crate::body::Body;
 use crate::digest::Digest;
@@ -23,18 +24,21 @@ use crate::title::Title;
 use std::alloc::Allocator;
 use std::cmp::Ordering;
 
-/// Where every operation names older ones, as each `Op` does, ready is the only set that satisfies its rule: an operation
-/// is in it exactly where it is in the set and each of its needs is met by an operation that is in it.
+/// Where every operation names older ones, as each `Op` does, ready is the only set that satisfies
+/// its rule: an operation is in it exactly where it is in the set and each of its needs is met by
+/// an operation that is in it.
 pub fn readiness()
     ensures { ReadyIsDefined }
 {}
 
-/// An operation that is ready among some operations is ready among these and more: readiness grows with the set.
+/// An operation that is ready among some operations is ready among these and more: readiness grows
+/// with the set.
 pub fn more_operations()
     ensures { ReadyAmongMore }
 {}
 
-/// An act writes at most one value of each field, and what is told of a field is that value of its list.
+/// An act writes at most one value of each field, and what is told of a field is that value of its
+/// list.
 pub fn writes()
     ensures titles { IsFieldOf field.Title field.title_written }
     ensures gains { IsFieldOf field.Gain field.gain_written }
@@ -48,7 +52,8 @@ pub fn writes()
     ensures marker_lengths { IsFieldOf field.MarkerLength field.marker_length_written }
 {}
 
-/// The last write of each field is the one with the greatest stamp, and there is one where the field was written.
+/// The last write of each field is the one with the greatest stamp, and there is one where the
+/// field was written.
 pub fn last_write()
     ensures titles { LatestIsGreatest (List ℕ) }
     ensures gains { LatestIsGreatest Gain }
@@ -62,8 +67,9 @@ pub fn last_write()
     ensures marker_lengths { LatestIsGreatest ℕ }
 {}
 
-/// The last write of an item's field is the value that one of the operations writes there, and no operation that writes
-/// there has a greater stamp. There is one wherever an operation writes there.
+/// The last write of an item's field is the value that one of the operations writes there, and no
+/// operation that writes there has a greater stamp. There is one wherever an operation writes
+/// there.
 pub fn last_writer()
     ensures titles { LastWriteIsGreatest field.Title field.title_written }
     ensures gains { LastWriteIsGreatest field.Gain field.gain_written }
@@ -77,7 +83,8 @@ pub fn last_writer()
     ensures marker_lengths { LastWriteIsGreatest field.MarkerLength field.marker_length_written }
 {}
 
-/// The live tags of an item are those that an operation gives it and none removes, and it is present exactly where it has one.
+/// The live tags of an item are those that an operation gives it and none removes, and it is
+/// present exactly where it has one.
 pub fn presence()
     ensures { PresenceIsOfTags }
 {}
@@ -89,7 +96,8 @@ pub fn equal_titles<A: Allocator>(a: &Title<A>, b: &Title<A>) -> bool
     a == b
 }
 
-/// Titles are compared by their bytes as numbers, from the first on; a title comes before its continuations.
+/// Titles are compared by their bytes as numbers, from the first on; a title comes before its
+/// continuations.
 pub fn compare_titles<A: Allocator>(a: &Title<A>, b: &Title<A>) -> Ordering
     ensures { result ≡ slice_cmp nat_cmp a.now b.now }
 {
@@ -105,7 +113,8 @@ pub fn unchanged_gain() -> Gain
 
 /// Gains are compared by what they multiply by, and then by what they divide by.
 pub fn compare_gains(first: &Gain, second: &Gain) -> Ordering
-    ensures { result ≡ ordering_then (nat_cmp first.now.num second.now.num) (nat_cmp first.now.den second.now.den) }
+    ensures { result ≡ ordering_then (nat_cmp first.now.num second.now.num)
+        (nat_cmp first.now.den second.now.den) }
 {
     first.cmp(second)
 }

@@ -1,7 +1,8 @@
-//! Operations: their titles, gains, digests and bodies, what they wait for, and how to find one by its dot.
+//! Operations: their titles, gains, digests and bodies, what they wait for, and how to find one by
+//! its dot.
 //!
-//! An operation has a stamp and a body, which names the items that it changes by their stamps. It needs each operation that it names, in the
-//! role that the body gives it:
+//! An operation has a stamp and a body, which names the items that it changes by their stamps. It
+//! needs each operation that it names, in the role that the body gives it:
 //!
 //! ```rust
 //! use mt_op::{Body, Need, Op, OpFault, Role, Title};

@@ -21,12 +21,14 @@ pub enum Role {
     Titled,
     /// An item of any kind: an AddTrack, an AddClip or an AddMarker.
     Item,
-    /// A tag of the item of this stamp: what added the item, under this stamp, or a Restore of this item.
+    /// A tag of the item of this stamp: what added the item, under this stamp, or a Restore of this
+    /// item.
     TagOf(Stamp),
 }
 
-/// What an operation waits for: the operation with this whole stamp (clock, replica and number), and what that
-/// operation has to be. One with the same replica and number and another clock does not do.
+/// What an operation waits for: the operation with this whole stamp (clock, replica and number),
+/// and what that operation has to be. One with the same replica and number and another clock does
+/// not do.
 #[derive(Clone, Copy, Debug, PartialEq, Eq)]
 pub struct Need {
     pub stamp: Stamp,

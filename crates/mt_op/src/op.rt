@@ -1,6 +1,7 @@
 //! Operations.
 
-ghost use Rattle.std.specs.Prelude.{◌≡◌, ◌↔◌, ◌⊎◌, true, false, IfOk, IfErr, IsOk, IsTrue, List, [], ◌∷◌, slice_get, length};
+ghost use Rattle.std.specs.Prelude.{◌≡◌, ◌↔◌, ◌⊎◌, true, false, IfOk, IfErr, IsOk, IsTrue, List};
+ghost use Rattle.std.specs.Prelude.{[], ◌∷◌, slice_get, length};
 ghost use Rattle.mt_op.specs.Bodies.{act_of, is_fixed_size};
 ghost use Rattle.mt_op.specs.OpValue.{MoveTrack, Remove};
 ghost use Rattle.mt_op.specs.Needs.{need_of, place_needs, needs_of, needs, fits};
@@ -16,9 +17,9 @@ use mt_stamp::{Dot, Stamp};
 use std::alloc::{Allocator, Global};
 use std::marker::Model;
 
-/// An operation: its stamp and what it does. Each stamp that its body names has a smaller clock than its own, the
-/// length that it gives a clip is at least 1, the fades that it gives one are at most 1,048,576 frames, and the tags of a Remove
-/// are from 1 to 65,535, rising.
+/// An operation: its stamp and what it does. Each stamp that its body names has a smaller clock
+/// than its own, the length that it gives a clip is at least 1, the fades that it gives one are at
+/// most 1,048,576 frames, and the tags of a Remove are from 1 to 65,535, rising.
 #[derive(Drop)]
 #[derive_where(PartialEq, Eq)]
 pub struct Op<A: Allocator = Global> {
@@ -172,8 +173,8 @@ impl<A: Allocator> Op<A> {
         }
     }
 
-    /// How many needs it has: one for each stamp that its body names, so none for an AddMarker and for an AddTrack at
-    /// the head. Two of them may name one operation.
+    /// How many needs it has: one for each stamp that its body names, so none for an AddMarker and
+    /// for an AddTrack at the head. Two of them may name one operation.
     pub fn need_count(&self) -> usize
         ensures { result ≡ length (needs self.now) }
     {
@@ -185,12 +186,13 @@ impl<A: Allocator> Op<A> {
         }
     }
 
-    /// The need at place `i`, counted from 0, in the order of the body's fields. `None` where `i` is
-    /// `need_count()` or more. An AddTrack or a MoveTrack needs what it is put after as a `Place`; a MoveTrack, an
-    /// AddClip and a MoveClip their track as a `Track`; a MoveClip, a TrimClip and a SetFade their clip as a `Clip`; a SetGain
-    /// and a SetMute their item as a `Mixable`; a Remove the item as an `Item`, and then each tag as a `TagOf` that
-    /// item; a Restore its item as an `Item`; a MoveMarker and a SetMarkerLength their marker as a `Marker`; a Retitle its item as a
-    /// `Titled`.
+    /// The need at place `i`, counted from 0, in the order of the body's fields. `None` where `i`
+    /// is `need_count()` or more. An AddTrack or a MoveTrack needs what it is put after as a
+    /// `Place`; a MoveTrack, an AddClip and a MoveClip their track as a `Track`; a MoveClip, a
+    /// TrimClip and a SetFade their clip as a `Clip`; a SetGain and a SetMute their item as a
+    /// `Mixable`; a Remove the item as an `Item`, and then each tag as a `TagOf` that item; a
+    /// Restore its item as an `Item`; a MoveMarker and a SetMarkerLength their marker as a
+    /// `Marker`; a Retitle its item as a `Titled`.
     pub fn need(&self, i: usize) -> Option<Need>
         ensures { result ≡ slice_get (needs self.now) i }
     {
@@ -213,9 +215,10 @@ impl<A: Allocator> Op<A> {
         }
     }
 
-    /// Whether another operation may name this one in that role: an AddTrack as a `Track`, `Place`, `Mixable`,
-    /// `Titled` and `Item`; a MoveTrack as a `Place`; an AddClip as a `Clip`, `Mixable` and `Item`; an AddMarker as a
-    /// `Marker`, `Titled` and `Item`; what adds an item as a `TagOf` its own stamp, and a Restore as a `TagOf` its item.
+    /// Whether another operation may name this one in that role: an AddTrack as a `Track`, `Place`,
+    /// `Mixable`, `Titled` and `Item`; a MoveTrack as a `Place`; an AddClip as a `Clip`, `Mixable`
+    /// and `Item`; an AddMarker as a `Marker`, `Titled` and `Item`; what adds an item as a `TagOf`
+    /// its own stamp, and a Restore as a `TagOf` its item.
     pub fn fits(&self, role: &Role) -> bool
         ensures { result ≡ fits role.now self.now }
     {
@@ -236,8 +239,9 @@ impl<A: Allocator> Op<A> {
         }
     }
 
-    /// An equal operation, on a clone of the allocator. Refused as `Memory` (0) where the clone of its title or its
-    /// tags gets no memory, and for nothing else: one whose body has neither is never refused.
+    /// An equal operation, on a clone of the allocator. Refused as `Memory` (0) where the clone of
+    /// its title or its tags gets no memory, and for nothing else: one whose body has neither is
+    /// never refused.
     pub fn try_clone(&self) -> Result<Self, OpFault>
     where
         A: Clone,

@@ -1,6 +1,7 @@
 //! Titles of items.
 
-ghost use Rattle.std.specs.Prelude.{◌≡◌, ◌↔◌, ◌≢◌, ◌≤◌, ◌⊎◌, Bool, true, false, not, List, length, nat_le, ◌==◌, ◌&&◌, IfOk, IfErr, IsErrOf, IsTrue};
+ghost use Rattle.std.specs.Prelude.{◌≡◌, ◌↔◌, ◌≢◌, ◌≤◌, ◌⊎◌, Bool, true, false, not, List, length};
+ghost use Rattle.std.specs.Prelude.{nat_le, ◌==◌, ◌&&◌, IfOk, IfErr, IsErrOf, IsTrue};
 ghost use Rattle.std.specs.List.{list_all};
 ghost use Rattle.mt_op.specs.Title.{is_plain, is_title};
 
@@ -9,8 +10,9 @@ use std::alloc::{Allocator, Global};
 use std::cmp::Ordering;
 use std::marker::Model;
 
-/// A title: at most 255 bytes of UTF-8 with no character below 0x20 and no 0x7F. It may be empty, and hold
-/// every other character. Titles are ordered by their bytes, compared as numbers from the first on.
+/// A title: at most 255 bytes of UTF-8 with no character below 0x20 and no 0x7F. It may be empty,
+/// and hold every other character. Titles are ordered by their bytes, compared as numbers from the
+/// first on.
 #[derive(Drop)]
 #[derive_where(Debug)]
 pub struct Title<A: Allocator = Global> {
@@ -51,8 +53,9 @@ fn is_title_text(text: &str) -> bool
 }
 
 impl<A: Allocator> Title<A> {
-    /// A title of this text. Refused as `BadTitle` (43) where the text is over 255 bytes, or has a character
-    /// below 0x20 or the character 0x7F. Any other text is refused only as `Memory` (0), where there is none.
+    /// A title of this text. Refused as `BadTitle` (43) where the text is over 255 bytes, or has a
+    /// character below 0x20 or the character 0x7F. Any other text is refused only as `Memory` (0),
+    /// where there is none.
     pub fn new(alloc: A, text: &str) -> Result<Self, OpFault>
         ensures ok { IfOk result (λ title. title ≡ text.now) }
         ensures bad_title { IsErrOf result OpFault.BadTitle ↔ (is_title text.now ≡ false) }
@@ -76,8 +79,8 @@ impl<A: Allocator> Title<A> {
         self.text.as_str()
     }
 
-    /// A title with the same text, on a clone of the allocator. Refused as `Memory` (0) where there is none, and
-    /// for nothing else.
+    /// A title with the same text, on a clone of the allocator. Refused as `Memory` (0) where there
+    /// is none, and for nothing else.
     pub fn try_clone(&self) -> Result<Self, OpFault>
     where
         A: Clone,

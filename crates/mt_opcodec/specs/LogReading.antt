@@ -1,5 +1,7 @@
 -- Reading a log, with its refusals in their order (profile).
-use Rattle.std.specs.Prelude.{◌≡◌, ℕ, zero, suc, ◌+◌, ◌-◌, Bool, List, [], ◌∷◌, length, take, drop, slice_index, Option, Some, None, Result, Ok, Err, nat_lt, nat_eq, not, if◌then◌else◌}
+use Rattle.std.specs.Prelude.{◌≡◌, ℕ, zero, suc, ◌+◌, ◌-◌, Bool, List, [], ◌∷◌, length, take, drop}
+use Rattle.std.specs.Prelude.{slice_index, Option, Some, None, Result, Ok, Err, nat_lt, nat_eq, not}
+use Rattle.std.specs.Prelude.{if◌then◌else◌}
 use Rattle.std.specs.Int.{w64, from_be_bytes}
 use Rattle.std.specs.Cmp.Lexicographic.{pointwise}
 use Rattle.std.specs.List.{starts_with}
@@ -12,7 +14,9 @@ use Rattle.mt_op.specs.Dots.{op_dot}
 use Rattle.mt_opcodec.specs.declared.fault.ReadFault.{ReadFault}
 use Rattle.mt_opcodec.specs.declared.fault.ReadFault.TheVariants as read
 use Rattle.mt_opcodec.specs.declared.fault.LogFault.{LogFault}
-use Rattle.mt_opcodec.specs.declared.fault.LogFault.TheVariants.{Memory, BadMagic, BadVersion, Damaged, BadRecord, OutOfOrder, Trailing, VersionTooHigh, Conflict}
+use Rattle.mt_opcodec.specs.declared.fault.LogFault.TheVariants.{Memory, BadMagic, BadVersion}
+use Rattle.mt_opcodec.specs.declared.fault.LogFault.TheVariants.{Damaged, BadRecord, OutOfOrder}
+use Rattle.mt_opcodec.specs.declared.fault.LogFault.TheVariants.{Trailing, VersionTooHigh, Conflict}
 use Rattle.mt_opcodec.specs.OpReading.{op_at}
 use Rattle.mt_opcodec.specs.Versions.{is_version, version_of}
 use Rattle.mt_opcodec.specs.LogText.{magic}
@@ -26,7 +30,8 @@ abbrev pub ◌>>=◌ : {A B : Type 0} → Result A LogFault → (A → Result B 
 abbrev pub in_order : ℕ → Option Dot → Op × List ℕ → Result (Op × List ℕ) LogFault
 in_order index last x = if is_after dot_cmp last (op_dot x.0) then Ok x else Err (OutOfOrder index)
 
-abbrev pub record_of : ℕ → Option Dot → Result (Op × List ℕ) ReadFault → Result (Op × List ℕ) LogFault
+abbrev pub record_of : ℕ → Option Dot → Result (Op × List ℕ) ReadFault
+    → Result (Op × List ℕ) LogFault
 record_of index last (Ok x) = in_order index last x
 record_of index last (Err cause) = Err (BadRecord index cause)
 
@@ -38,7 +43,8 @@ fault_of index read.BadTag = BadRecord index read.BadTag
 fault_of index read.BadField = BadRecord index read.BadField
 
 -- this many operations of a version, from record `index` on, after the dot `last`, and then nothing
-unfoldable pub records_at : (version count index : ℕ) → Option Dot → List ℕ → Result (List Op) LogFault
+unfoldable pub records_at : (version count index : ℕ) → Option Dot → List ℕ
+    → Result (List Op) LogFault
 records_at version zero index last [] = Ok []
 records_at version zero index last (b ∷ bytes) = Err Trailing
 records_at version (suc count) index last bytes = do
@@ -84,7 +90,8 @@ sealed_at bytes =
 
 -- the count says how many operations stand between it and the digest
 unfoldable pub counted_at : List ℕ → Result (List Op) LogFault
-counted_at body = log_records_at (version_byte body) (from_be_bytes w64 (take 8 (drop 5 body))) (drop head_len body)
+counted_at body = log_records_at (version_byte body) (from_be_bytes w64 (take 8 (drop 5 body)))
+    (drop head_len body)
 
 abbrev pub log_at : List ℕ → Result (List Op) LogFault
 log_at bytes = sealed_at bytes >>= counted_at

@@ -1,5 +1,6 @@
 -- A log as a finite map from dot to operation (profile).
-use Rattle.std.specs.Prelude.{◌≡◌, ◌≢◌, List, map as list_map, IsTrue, Bool, true, false, Some, None, Result, Ok, Err}
+use Rattle.std.specs.Prelude.{◌≡◌, ◌≢◌, List, map as list_map, IsTrue, Bool, true, false, Some}
+use Rattle.std.specs.Prelude.{None, Result, Ok, Err}
 use Rattle.std.specs.List.{AllByRecursion}
 use Rattle.std.specs.FinMap as map
 use Rattle.mt_stamp.specs.StampOrder.{dot_cmp}
@@ -31,5 +32,6 @@ abbrev pub Adds : Op → LogMap → Result Bool LogFault → Type 0
 Adds op log (Ok true) = map.get log (op_dot op) ≡ None
 Adds op log (Ok false) = map.get log (op_dot op) ≡ Some op
 Adds op log (Err Memory) = map.get log (op_dot op) ≡ None
-Adds op log (Err (Conflict dot)) = (dot ≡ op_dot op) × ((other : Op) × ((map.get log dot ≡ Some other) × (other ≢ op)))
+Adds op log (Err (Conflict dot)) = (dot ≡ op_dot op)
+    × ((other : Op) × ((map.get log dot ≡ Some other) × (other ≢ op)))
 Adds op log (Err _) = ⊥

@@ -8,14 +8,19 @@ use Rattle.mt_op.specs.Dots.{op_dot}
 use Rattle.mt_opcodec.specs.declared.joining.Next.{Next}
 use Rattle.mt_opcodec.specs.declared.joining.Next.TheVariants.{Left, Right, Both, Conflict, End}
 
--- Of the next operation of each log: the one with the smaller dot, or the same one, or two of one dot.
+-- Of the next operation of each log: the one with the smaller dot, or the same one, or two of one
+-- dot.
 abbrev pub ComesNext : Option Op → Option Op → Next → Type 0
-ComesNext left right Left = (o : Op) × ((left ≡ Some o) × ((p : Op) → right ≡ Some p → dot_cmp (op_dot o) (op_dot p) ≡ Less))
-ComesNext left right Right = (p : Op) × ((right ≡ Some p) × ((o : Op) → left ≡ Some o → dot_cmp (op_dot p) (op_dot o) ≡ Less))
+ComesNext left right Left = (o : Op) × ((left ≡ Some o)
+    × ((p : Op) → right ≡ Some p → dot_cmp (op_dot o) (op_dot p) ≡ Less))
+ComesNext left right Right = (p : Op) × ((right ≡ Some p)
+    × ((o : Op) → left ≡ Some o → dot_cmp (op_dot p) (op_dot o) ≡ Less))
 ComesNext left right Both = (o : Op) × ((left ≡ Some o) × (right ≡ Some o))
-ComesNext left right Conflict = (o p : Op) × ((left ≡ Some o) × (right ≡ Some p) × (op_dot o ≡ op_dot p) × (o ≢ p))
+ComesNext left right Conflict = (o p : Op) × ((left ≡ Some o) × (right ≡ Some p)
+    × (op_dot o ≡ op_dot p) × (o ≢ p))
 ComesNext left right End = (left ≡ None) × (right ≡ None)
 
 -- every dot of the first is smaller than every dot of the second
 abbrev pub EndsBefore : List Op → List Op → Type 0
-EndsBefore left right = AllByRecursion (λ (o : Op). AllByRecursion (λ (p : Op). dot_cmp (op_dot o) (op_dot p) ≡ Less) right) left
+EndsBefore left right = AllByRecursion (λ (o : Op). AllByRecursion
+    (λ (p : Op). dot_cmp (op_dot o) (op_dot p) ≡ Less) right) left

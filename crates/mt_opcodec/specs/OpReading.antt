@@ -1,30 +1,41 @@
--- Reading an operation from left to right, field by field, with the first fault that is met (profile).
-use Rattle.std.specs.Prelude.{◌≡◌, ℕ, zero, suc, Bool, true, false, List, [], ◌∷◌, Option, Some, None, length, take, drop, Result, Ok, Err, nat_lt, nat_le, ◌==◌, ◌&&◌, if◌then◌else◌}
+-- Reading an operation from left to right, field by field, with the first fault that is met
+-- (profile).
+use Rattle.std.specs.Prelude.{◌≡◌, ℕ, zero, suc, Bool, true, false, List, [], ◌∷◌, Option, Some}
+use Rattle.std.specs.Prelude.{None, length, take, drop, Result, Ok, Err, nat_lt, nat_le, ◌==◌, ◌&&◌}
+use Rattle.std.specs.Prelude.{if◌then◌else◌}
 use Rattle.std.specs.Int.{Width, w16, w32, w64, w128, byte_len, from_be_bytes}
 use Rattle.mt_stamp.specs.StampOrder.{Stamp, stamp_cmp, greatest}
 use Rattle.mt_op.specs.Title.{is_title}
 use Rattle.mt_op.specs.Rising.{is_after}
 use Rattle.mt_op.specs.Gain.{Gain}
 use Rattle.mt_op.specs.declared.digest.Digest.{Digest}
-use Rattle.mt_op.specs.OpValue.{Body, AddTrack, MoveTrack, AddClip, MoveClip, TrimClip, SetGain, SetMute, Remove, Restore, AddMarker, MoveMarker, Retitle, SetFade, SetMarkerLength, Op}
+use Rattle.mt_op.specs.OpValue.{Body, AddTrack, MoveTrack, AddClip, MoveClip, TrimClip, SetGain}
+use Rattle.mt_op.specs.OpValue.{SetMute, Remove, Restore, AddMarker, MoveMarker, Retitle, SetFade}
+use Rattle.mt_op.specs.OpValue.{SetMarkerLength, Op}
 use Rattle.mt_op.specs.Valid.{longest_fade}
 use Rattle.mt_opcodec.specs.declared.fault.ReadFault.{ReadFault}
-use Rattle.mt_opcodec.specs.declared.fault.ReadFault.TheVariants.{Truncated, BadTag, BadField, Memory}
+use Rattle.mt_opcodec.specs.declared.fault.ReadFault.TheVariants.{Truncated, BadTag, BadField}
+use Rattle.mt_opcodec.specs.declared.fault.ReadFault.TheVariants.{Memory}
 use Rattle.mt_opcodec.specs.Versions.{version_of_kind}
-use Rattle.mt_opcodec.specs.OpText.{add_track_kind, move_track_kind, add_clip_kind, move_clip_kind, trim_clip_kind, set_gain_kind, set_mute_kind, remove_kind, restore_kind, add_marker_kind, move_marker_kind, retitle_kind, set_fade_kind, set_marker_length_kind}
+use Rattle.mt_opcodec.specs.OpText.{add_track_kind, move_track_kind, add_clip_kind, move_clip_kind}
+use Rattle.mt_opcodec.specs.OpText.{trim_clip_kind, set_gain_kind, set_mute_kind, remove_kind}
+use Rattle.mt_opcodec.specs.OpText.{restore_kind, add_marker_kind, move_marker_kind, retitle_kind}
+use Rattle.mt_opcodec.specs.OpText.{set_fade_kind, set_marker_length_kind}
 
 -- a value and the bytes after it, or the first fault
 abbrev pub Reads : Type 0 → Type 0
 Reads X = Result (X × List ℕ) ReadFault
 
 infixl 10 ◌>>=◌
-abbrev pub ◌>>=◌ : {A B : Type 0} → Result A ReadFault → (A → Result B ReadFault) → Result B ReadFault
+abbrev pub ◌>>=◌ : {A B : Type 0} → Result A ReadFault → (A → Result B ReadFault)
+    → Result B ReadFault
 (Ok x) >>= f = f x
 (Err e) >>= f = Err e
 
 -- a number of fixed width
 abbrev pub number_at : Width → List ℕ → Reads ℕ
-number_at w bytes = if nat_lt (length bytes) (byte_len w) then Err Truncated else Ok (from_be_bytes w (take (byte_len w) bytes), drop (byte_len w) bytes)
+number_at w bytes = if nat_lt (length bytes) (byte_len w) then Err Truncated else Ok
+    (from_be_bytes w (take (byte_len w) bytes), drop (byte_len w) bytes)
 
 -- a number of fixed width that is not 0
 unfoldable pub positive_at : Width → List ℕ → Reads ℕ
@@ -92,7 +103,8 @@ title_at (n ∷ rest) =
 
 -- thirty-two bytes
 unfoldable pub digest_at : List ℕ → Reads Digest
-digest_at bytes = if nat_lt (length bytes) 32 then Err Truncated else Ok (record { 0 = take 32 bytes }, drop 32 bytes)
+digest_at bytes = if nat_lt (length bytes) 32 then Err Truncated else Ok
+    (record { 0 = take 32 bytes }, drop 32 bytes)
 
 -- what a clip plays of its recording: from which frame on, and then how many
 unfoldable pub trim_at : List ℕ → Reads (ℕ × ℕ)
@@ -253,7 +265,8 @@ readers =
 -- the fields that the first of these readers with this kind byte reads
 abbrev pub fields_at : List Reader → ℕ → ℕ → List ℕ → Reads Body
 fields_at [] kind clock bytes = Err BadTag
-fields_at (reader ∷ others) kind clock bytes = if kind == reader.0 then reader.1 clock bytes else fields_at others kind clock bytes
+fields_at (reader ∷ others) kind clock bytes = if kind == reader.0 then reader.1 clock bytes else
+    fields_at others kind clock bytes
 
 -- a kind byte, and the fields that it calls for
 unfoldable pub act_at : ℕ → List ℕ → Reads Body

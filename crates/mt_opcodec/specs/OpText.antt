@@ -4,7 +4,9 @@ use Rattle.std.specs.Int.{w16, w32, w64, w128, to_be_bytes}
 use Rattle.std.specs.List.{flat_map}
 use Rattle.mt_stamp.specs.StampOrder.{Stamp}
 use Rattle.mt_op.specs.Gain.{Gain}
-use Rattle.mt_op.specs.OpValue.{Body, AddTrack, MoveTrack, AddClip, MoveClip, TrimClip, SetGain, SetMute, Remove, Restore, AddMarker, MoveMarker, Retitle, SetFade, SetMarkerLength, Op}
+use Rattle.mt_op.specs.OpValue.{Body, AddTrack, MoveTrack, AddClip, MoveClip, TrimClip, SetGain}
+use Rattle.mt_op.specs.OpValue.{SetMute, Remove, Restore, AddMarker, MoveMarker, Retitle, SetFade}
+use Rattle.mt_op.specs.OpValue.{SetMarkerLength, Op}
 
 -- clock in 8 bytes, replica in 16, sequence number in 8
 abbrev pub stamp_bytes : Stamp → List ℕ
@@ -91,8 +93,10 @@ set_marker_length_kind = 14
 abbrev pub act_bytes : Body → List ℕ
 act_bytes (AddTrack after title) = add_track_kind ∷ (place_bytes after ++ title_bytes title)
 act_bytes (MoveTrack track after) = move_track_kind ∷ (stamp_bytes track ++ place_bytes after)
-act_bytes (AddClip source track at offset len) = add_clip_kind ∷ (source.0 ++ (stamp_bytes track ++ (frame_bytes at ++ trim_bytes offset len)))
-act_bytes (MoveClip clip track at) = move_clip_kind ∷ (stamp_bytes clip ++ (stamp_bytes track ++ frame_bytes at))
+act_bytes (AddClip source track at offset len) = add_clip_kind
+    ∷ (source.0 ++ (stamp_bytes track ++ (frame_bytes at ++ trim_bytes offset len)))
+act_bytes (MoveClip clip track at) = move_clip_kind
+    ∷ (stamp_bytes clip ++ (stamp_bytes track ++ frame_bytes at))
 act_bytes (TrimClip clip offset len) = trim_clip_kind ∷ (stamp_bytes clip ++ trim_bytes offset len)
 act_bytes (SetGain item gain) = set_gain_kind ∷ (stamp_bytes item ++ gain_bytes gain)
 act_bytes (SetMute item on) = set_mute_kind ∷ (stamp_bytes item ++ flag_bytes on)
@@ -101,8 +105,10 @@ act_bytes (Restore item) = restore_kind ∷ stamp_bytes item
 act_bytes (AddMarker at title) = add_marker_kind ∷ (frame_bytes at ++ title_bytes title)
 act_bytes (MoveMarker marker at) = move_marker_kind ∷ (stamp_bytes marker ++ frame_bytes at)
 act_bytes (Retitle item title) = retitle_kind ∷ (stamp_bytes item ++ title_bytes title)
-act_bytes (SetFade clip fade_in fade_out) = set_fade_kind ∷ (stamp_bytes clip ++ fades_bytes fade_in fade_out)
-act_bytes (SetMarkerLength marker len) = set_marker_length_kind ∷ (stamp_bytes marker ++ frame_bytes len)
+act_bytes (SetFade clip fade_in fade_out) = set_fade_kind
+    ∷ (stamp_bytes clip ++ fades_bytes fade_in fade_out)
+act_bytes (SetMarkerLength marker len) = set_marker_length_kind
+    ∷ (stamp_bytes marker ++ frame_bytes len)
 
 abbrev pub op_text : Op → List ℕ
 op_text o = stamp_bytes o.stamp ++ act_bytes o.act

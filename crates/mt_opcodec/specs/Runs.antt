@@ -1,5 +1,6 @@
 -- A log as one run of operations for each replica (profile).
-use Rattle.std.specs.Prelude.{◌≡◌, ◌<◌, ◌≤◌, ℕ, List, [], ◌∷◌, Option, Some, None, slice_get, length}
+use Rattle.std.specs.Prelude.{◌≡◌, ◌<◌, ◌≤◌, ℕ, List, [], ◌∷◌, Option, Some, None, slice_get}
+use Rattle.std.specs.Prelude.{length}
 use Rattle.std.specs.List.{AllByRecursion, flat_map}
 use Rattle.mt_stamp.specs.declared.name.Replica.{Replica}
 use Rattle.mt_op.specs.OpValue.{Op}
@@ -42,7 +43,8 @@ pub record IsRunLog (runs : List RunOf) (count : ℕ) : Type 0 where
   pub runs_are : AreRuns runs
   pub counted : count ≡ length (run_ops runs)
 
--- Working predicates from here on: what is found of a replica's run, and what joining two logs run by run has done.
+-- Working predicates from here on: what is found of a replica's run, and what joining two logs run
+-- by run has done.
 
 -- the run of this replica stands at place i
 abbrev pub IsRunAt : List RunOf → Replica → ℕ → Type 0
@@ -63,7 +65,10 @@ pub record IsJoined (r s t : RunOf) : Type 0 where
 
 -- Of the next run of each log: the one of the smaller replica, or two of one replica.
 abbrev pub RunComes : Option RunOf → Option RunOf → NextRun → Type 0
-RunComes left right next.Left = (r : RunOf) × ((left ≡ Some r) × ((s : RunOf) → right ≡ Some s → r.replica.0 < s.replica.0))
-RunComes left right next.Right = (s : RunOf) × ((right ≡ Some s) × ((r : RunOf) → left ≡ Some r → s.replica.0 < r.replica.0))
-RunComes left right next.Both = (r s : RunOf) × ((left ≡ Some r) × (right ≡ Some s) × (r.replica ≡ s.replica))
+RunComes left right next.Left = (r : RunOf) × ((left ≡ Some r)
+    × ((s : RunOf) → right ≡ Some s → r.replica.0 < s.replica.0))
+RunComes left right next.Right = (s : RunOf) × ((right ≡ Some s)
+    × ((r : RunOf) → left ≡ Some r → s.replica.0 < r.replica.0))
+RunComes left right next.Both = (r s : RunOf) × ((left ≡ Some r) × (right ≡ Some s)
+    × (r.replica ≡ s.replica))
 RunComes left right next.End = (left ≡ None) × (right ≡ None)

@@ -15,4 +15,5 @@ AreSeen seen log = (dot : Dot) → seen dot ≡ map.get log dot
 -- what stands under a dot once these operations are noted, one after another
 abbrev pub seen_after : List Op → (Dot → Option Op) → Dot → Option Op
 seen_after [] seen dot = seen dot
-seen_after (o ∷ ops) seen dot = seen_after ops (λ q. cond (is_eq (dot_cmp (op_dot o) q)) (Some o) (seen q)) dot
+seen_after (o ∷ ops) seen dot = seen_after ops (λ q. cond (is_eq (dot_cmp (op_dot o) q)) (Some o)
+    (seen q)) dot

@@ -1,5 +1,7 @@
--- Lists of operations that are taken from their fronts, one operation in a turn (working predicates).
-use Rattle.std.specs.Prelude.{◌≡◌, ◌⊎◌, ◌↔◌, ℕ, zero, suc, List, [], ◌∷◌, Option, Some, None, slice_get, drop}
+-- Lists of operations that are taken from their fronts, one operation in a turn (working
+-- predicates).
+use Rattle.std.specs.Prelude.{◌≡◌, ◌⊎◌, ◌↔◌, ℕ, zero, suc, List, [], ◌∷◌, Option, Some, None}
+use Rattle.std.specs.Prelude.{slice_get, drop}
 use Rattle.std.specs.FinMap as map
 use Rattle.std.specs.declared.cmp.Ordering.TheVariants.{Less}
 use Rattle.mt_stamp.specs.declared.name.Dot.{Dot}
@@ -52,7 +54,8 @@ HaveOneEach log lists = (dot : Dot) (o p : Op) → Has log lists dot o → Has l
 
 -- they have the same after as before
 abbrev pub HaveTheSame : LogMap → List (List Op) → LogMap → List (List Op) → Type 0
-HaveTheSame old old_lists new new_lists = (dot : Dot) (o : Op) → Has old old_lists dot o ↔ Has new new_lists dot o
+HaveTheSame old old_lists new new_lists = (dot : Dot) (o : Op) → Has old old_lists dot o
+    ↔ Has new new_lists dot o
 
 -- two operations of one dot are one
 abbrev pub AreOneEach : List (List Op) → Type 0

@@ -1,5 +1,5 @@
--- The union of logs (what two replicas have delivered together: INRIA RR-7506, convergence), and where it is consistent
--- (profile).
+-- The union of logs (what two replicas have delivered together: INRIA RR-7506, convergence), and
+-- where it is consistent (profile).
 use Rattle.std.specs.Prelude.{◌≡◌, ◌≢◌, List, [], ◌∷◌, ◌++◌, ◌⊎◌, Some}
 use Rattle.std.specs.FinMap as map
 use Rattle.std.specs.declared.cmp.Ordering.TheVariants.{Less}
@@ -12,9 +12,11 @@ use Rattle.mt_opcodec.specs.declared.fault.LogFault.TheVariants.{Memory, Conflic
 
 -- Two logs clash at a dot that names an operation in one and another operation in the other.
 abbrev pub ConflictsAt : LogMap → LogMap → Dot → Type 0
-ConflictsAt a b dot = (o : Op) × ((p : Op) × ((map.get a dot ≡ Some o) × (map.get b dot ≡ Some p) × (o ≢ p)))
+ConflictsAt a b dot = (o : Op) × ((p : Op) × ((map.get a dot ≡ Some o) × (map.get b dot ≡ Some p)
+    × (o ≢ p)))
 
--- Two logs agree where every dot that both have names one operation: then the union of their sets is a log.
+-- Two logs agree where every dot that both have names one operation: then the union of their sets
+-- is a log.
 abbrev pub Agree : LogMap → LogMap → Type 0
 Agree a b = (dot : Dot) (o p : Op) → map.get a dot ≡ Some o → map.get b dot ≡ Some p → o ≡ p
 
@@ -49,15 +51,18 @@ AgreeFrom a (b ∷ logs) = Agree a b × AgreeFrom (union a b) logs
 abbrev pub AllAgree : List LogMap → Type 0
 AllAgree logs = AgreeFrom map.empty logs
 
--- The first log that does not agree with the union of those before it clashes with that union, first at this dot.
+-- The first log that does not agree with the union of those before it clashes with that union,
+-- first at this dot.
 abbrev pub FirstConflictFrom : LogMap → List LogMap → Dot → Type 0
 FirstConflictFrom a [] dot = ⊥
-FirstConflictFrom a (b ∷ logs) dot = IsFirstConflict a b dot ⊎ (Agree a b × FirstConflictFrom (union a b) logs dot)
+FirstConflictFrom a (b ∷ logs) dot = IsFirstConflict a b dot
+    ⊎ (Agree a b × FirstConflictFrom (union a b) logs dot)
 
 abbrev pub FirstConflict : List LogMap → Dot → Type 0
 FirstConflict logs dot = FirstConflictFrom map.empty logs dot
 
--- what refuses the union of logs: memory, or the first dot at which a log clashes with those before it
+-- what refuses the union of logs: memory, or the first dot at which a log clashes with those before
+-- it
 abbrev pub JoinAllFails : List LogMap → LogFault → Type 0
 JoinAllFails logs Memory = Unit {0}
 JoinAllFails logs (Conflict dot) = FirstConflict logs dot

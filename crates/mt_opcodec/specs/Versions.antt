@@ -23,7 +23,8 @@ version_of_act (SetFade clip fade_in fade_out) = 2
 version_of_act (SetMarkerLength marker len) = 3
 version_of_act _ = 1
 
--- the version of a log of these operations: the greatest that one of them asks for, and 1 where there is none
+-- the version of a log of these operations: the greatest that one of them asks for, and 1 where
+-- there is none
 abbrev pub version_of : List Op → ℕ
 version_of [] = 1
 version_of (o ∷ ops) = max (version_of_act o.act) (version_of ops)

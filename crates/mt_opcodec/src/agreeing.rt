@@ -3,7 +3,8 @@
 ghost use Rattle.std.specs.Prelude.{◌≡◌, drop, IfOk, IsTrue, map as list_map};
 ghost use Rattle.std.specs.Option.{option_copied};
 ghost use Rattle.mt_op.specs.OpValue.{Op};
-ghost use Rattle.mt_opcodec.specs.Turns.{IsInOne, AreOneEach, MayStandBehind, first_at, without_first};
+ghost use Rattle.mt_opcodec.specs.Turns.{IsInOne, AreOneEach, MayStandBehind, first_at};
+ghost use Rattle.mt_opcodec.specs.Turns.{without_first};
 ghost use Rattle.mt_opcodec.specs.Union.{AllAgree};
 
 use crate::log::Log;
@@ -29,7 +30,8 @@ fn take_ref<'a, A: Allocator, B: Allocator>(
     i: usize,
 ) -> Option<&'a Op<A>>
     ensures first { option_copied result ≡ first_at (list_map (λ l. l.now) lists.old.items) i }
-    ensures rest { list_map (λ l. l.now) lists.new.items ≡ without_first (list_map (λ l. l.now) lists.old.items) i }
+    ensures rest { list_map (λ l. l.now) lists.new.items
+        ≡ without_first (list_map (λ l. l.now) lists.old.items) i }
 {
     if i >= lists.len() {
         return None;
@@ -65,8 +67,8 @@ fn none_left<A: Allocator>(lists: &[&[Op<A>]]) -> bool
     true
 }
 
-// Whether operations that are taken in these turns, each the first that is left of the list at an index, are all of them and rise, but
-// for the same one again.
+// Whether operations that are taken in these turns, each the first that is left of the list at an
+// index, are all of them and rise, but for the same one again.
 fn rise_in_turns<A: Allocator, B: Allocator>(lists: Vec<&[Op<A>], B>, merge_order: &[usize]) -> bool
     ensures { IsTrue result → AreOneEach (list_map (λ l. l.now) lists.entry.items) }
 {

@@ -17,7 +17,8 @@ use std::alloc::Allocator;
 
 // Whether what a log has under this operation's dot is another one.
 pub(crate) fn is_another<A: Allocator>(there: Option<&Op<A>>, op: &Op<A>) -> bool
-    ensures { (log : LogMap) → map.get log (op_dot op.now) ≡ option_copied there.entry → HasAnother log op.now result }
+    ensures { (log : LogMap) → map.get log (op_dot op.now) ≡ option_copied there.entry
+        → HasAnother log op.now result }
 {
     match there {
         Some(there) => !equal_ops(there, op),

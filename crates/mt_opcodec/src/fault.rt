@@ -8,10 +8,10 @@ use mt_stamp::Dot;
 use std::alloc::{AllocError, AllocFailed};
 use thiserror::Error;
 
-/// Why bytes do not begin with the text of an operation: the fault of the first field, from left to right,
-/// that has one. A stamp is one field, and so are a title with its length, a digest, a number, a flag and the kind byte.
-/// So a place is a flag and, where that is 1, a stamp; a gain is two numbers; and of a Remove's tags their count and each
-/// of them are fields of their own.
+/// Why bytes do not begin with the text of an operation: the fault of the first field, from left to
+/// right, that has one. A stamp is one field, and so are a title with its length, a digest, a
+/// number, a flag and the kind byte. So a place is a flag and, where that is 1, a stamp; a gain is
+/// two numbers; and of a Remove's tags their count and each of them are fields of their own.
 #[derive(Clone, Copy, Debug, PartialEq, Eq, Error)]
 pub enum ReadFault {
     /// A growth was refused.
@@ -23,10 +23,11 @@ pub enum ReadFault {
     /// The kind byte is none of 1 to 14.
     #[error("no operation has this kind byte")]
     BadTag,
-    /// A complete field other than the kind byte is not allowed: a stamp whose clock or sequence number is 0 or
-    /// above 2^62, a named stamp whose clock is not smaller than the operation's own, a flag that is neither 0 nor 1,
-    /// a clip's length of 0, a fade of over 1,048,576 frames, a gain's divisor of 0, a Remove's count of 0, a tag of a
-    /// Remove that is not greater than the one before, or a title that is not UTF-8 or holds a character below 0x20 or 0x7F.
+    /// A complete field other than the kind byte is not allowed: a stamp whose clock or sequence
+    /// number is 0 or above 2^62, a named stamp whose clock is not smaller than the operation's
+    /// own, a flag that is neither 0 nor 1, a clip's length of 0, a fade of over 1,048,576 frames,
+    /// a gain's divisor of 0, a Remove's count of 0, a tag of a Remove that is not greater than the
+    /// one before, or a title that is not UTF-8 or holds a character below 0x20 or 0x7F.
     #[error("a field of the operation is out of range")]
     BadField,
 }
@@ -61,7 +62,8 @@ impl<T: Drop> From<AllocFailed<T>> for ReadFault {
     }
 }
 
-/// Why bytes are not the text of a log, an operation cannot join a log, or two logs cannot be merged.
+/// Why bytes are not the text of a log, an operation cannot join a log, or two logs cannot be
+/// merged.
 #[derive(Clone, Copy, Debug, PartialEq, Eq, Error)]
 pub enum LogFault {
     /// A growth was refused.
@@ -73,11 +75,12 @@ pub enum LogFault {
     /// The fifth byte, which names the version, is missing or none of 1 to 3.
     #[error("a log of another version")]
     BadVersion,
-    /// There are fewer than 45 bytes, as the empty log has, or the last 32 are not the SHA-256 of those
-    /// before them.
+    /// There are fewer than 45 bytes, as the empty log has, or the last 32 are not the SHA-256 of
+    /// those before them.
     #[error("the log is damaged")]
     Damaged,
-    /// The record of this index, counted from 0, is no operation of the log's version, for this reason, which is never `Memory`.
+    /// The record of this index, counted from 0, is no operation of the log's version, for this
+    /// reason, which is never `Memory`.
     #[error("record {0} is no operation: {1}")]
     BadRecord(u64, ReadFault),
     /// The dot of the record of this index is not greater than the one before.

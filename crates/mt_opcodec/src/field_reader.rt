@@ -4,7 +4,11 @@ ghost use Rattle.std.specs.Prelude.{◌≡◌, IfErr, Some, None, ◌==◌, if�
 ghost use Rattle.std.specs.Int.{w16, w32, w64, w128};
 ghost use Rattle.mt_stamp.specs.StampOrder.{stamp_cmp};
 ghost use Rattle.mt_op.specs.Rising.{is_after};
-ghost use Rattle.mt_opcodec.specs.OpReading.{Gives, number_at, positive_at, flag_at, moment_at, is_stamp, stamp_at, older_stamp_at, after_at, place_at, title_of_bytes, title_at, digest_at, trim_at, fade_at, fades_at, gain_at, tag_at, stamps_at, tags_at};
+ghost use Rattle.mt_opcodec.specs.OpReading.{Gives, number_at, positive_at, flag_at, moment_at};
+ghost use Rattle.mt_opcodec.specs.OpReading.{is_stamp, stamp_at, older_stamp_at, after_at};
+ghost use Rattle.mt_opcodec.specs.OpReading.{place_at, title_of_bytes, title_at, digest_at};
+ghost use Rattle.mt_opcodec.specs.OpReading.{trim_at, fade_at, fades_at, gain_at, tag_at};
+ghost use Rattle.mt_opcodec.specs.OpReading.{stamps_at, tags_at};
 
 use crate::fault::ReadFault;
 use mt_op::{Digest, Gain, LONGEST_FADE, OpFault, Title};
@@ -20,8 +24,8 @@ fn u16_at(bytes: &[u8]) -> Result<(u16, &[u8]), ReadFault>
     }
 }
 
-/// The number of the first 4 bytes, the greatest byte first, and the bytes after them. Refused as `Truncated` (8) where there are
-/// fewer, and for nothing else. Takes no memory.
+/// The number of the first 4 bytes, the greatest byte first, and the bytes after them. Refused as
+/// `Truncated` (8) where there are fewer, and for nothing else. Takes no memory.
 pub fn u32_at(bytes: &[u8]) -> Result<(u32, &[u8]), ReadFault>
     ensures read { Gives (λ x. (x.0, x.1.now)) result (number_at w32 bytes.now) }
     ensures err { IfErr result (λ fault. fault ≡ ReadFault.Truncated) }
@@ -32,8 +36,8 @@ pub fn u32_at(bytes: &[u8]) -> Result<(u32, &[u8]), ReadFault>
     }
 }
 
-/// The number of the first 8 bytes, the greatest byte first, and the bytes after them. Refused as `Truncated` (8) where there are
-/// fewer, and for nothing else. Takes no memory.
+/// The number of the first 8 bytes, the greatest byte first, and the bytes after them. Refused as
+/// `Truncated` (8) where there are fewer, and for nothing else. Takes no memory.
 pub fn u64_at(bytes: &[u8]) -> Result<(u64, &[u8]), ReadFault>
     ensures read { Gives (λ x. (x.0, x.1.now)) result (number_at w64 bytes.now) }
     ensures err { IfErr result (λ fault. fault ≡ ReadFault.Truncated) }
@@ -44,8 +48,8 @@ pub fn u64_at(bytes: &[u8]) -> Result<(u64, &[u8]), ReadFault>
     }
 }
 
-/// The number of the first 16 bytes, the greatest byte first, and the bytes after them. Refused as `Truncated` (8) where there are
-/// fewer, and for nothing else. Takes no memory.
+/// The number of the first 16 bytes, the greatest byte first, and the bytes after them. Refused as
+/// `Truncated` (8) where there are fewer, and for nothing else. Takes no memory.
 pub fn u128_at(bytes: &[u8]) -> Result<(u128, &[u8]), ReadFault>
     ensures read { Gives (λ x. (x.0, x.1.now)) result (number_at w128 bytes.now) }
     ensures err { IfErr result (λ fault. fault ≡ ReadFault.Truncated) }

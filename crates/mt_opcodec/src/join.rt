@@ -56,7 +56,8 @@ fn join_first<A: Allocator + Clone>(
     right: &mut VecDeque<Run<A>, A>,
     runs: &mut Vec<Run<A>, A>,
 ) -> Result<(), LogFault>
-    requires { (r s : RunOf) → slice_get left.old.items 0 ≡ Some r → slice_get right.old.items 0 ≡ Some s
+    requires { (r s : RunOf) → slice_get left.old.items 0 ≡ Some r → slice_get right.old.items 0
+        ≡ Some s
         → r.replica ≡ s.replica }
     ensures rest_left { OnOk result (left.new.items ≡ drop 1 left.old.items) }
     ensures rest_right { OnOk result (right.new.items ≡ drop 1 right.old.items) }
@@ -91,9 +92,12 @@ pub(crate) fn joined_runs<A: Allocator + Clone>(
     requires left { AreRuns left.items }
     requires right { AreRuns right.items }
     ensures runs { IfOk result (λ runs. AreRuns runs.items) }
-    ensures ok { IfOk result (λ runs. Agree (log_of (run_ops left.items)) (log_of (run_ops right.items))
-        × (log_of (run_ops runs.items) ≡ union (log_of (run_ops left.items)) (log_of (run_ops right.items)))) }
-    ensures err { IfErr result (MergeFails (log_of (run_ops left.items)) (log_of (run_ops right.items))) }
+    ensures ok { IfOk result (λ runs. Agree (log_of (run_ops left.items))
+        (log_of (run_ops right.items))
+        × (log_of (run_ops runs.items) ≡ union (log_of (run_ops left.items))
+            (log_of (run_ops right.items)))) }
+    ensures err { IfErr result (MergeFails (log_of (run_ops left.items))
+        (log_of (run_ops right.items))) }
 {
     let mut runs = Vec::new(left.allocator().clone()?);
     let mut left = VecDeque::from(left);

@@ -1,6 +1,7 @@
 //! Joining the operations of two runs by moving them.
 
-ghost use Rattle.std.specs.Prelude.{◌≡◌, ◌++◌, ◌∷◌, [], Some, slice_get, drop, IfOk, IfErr, OnOk, IsTrue};
+ghost use Rattle.std.specs.Prelude.{◌≡◌, ◌++◌, ◌∷◌, [], Some, slice_get, drop, IfOk, IfErr, OnOk};
+ghost use Rattle.std.specs.Prelude.{IsTrue};
 ghost use Rattle.mt_op.specs.OpValue.{Op};
 ghost use Rattle.mt_op.specs.Dots.{op_dot, dots_rise};
 ghost use Rattle.mt_opcodec.specs.LogValue.{AreLogged, log_of};
@@ -57,7 +58,8 @@ fn move_first<A: Allocator>(
 
 // The refusal of another operation under the dot of the first.
 fn conflict_at<A: Allocator>(left: &VecDeque<Op<A>, A>) -> LogFault
-    ensures { (o : Op) → slice_get left.now.items 0 ≡ Some o → result ≡ LogFault.Conflict (op_dot o) }
+    ensures { (o : Op) → slice_get left.now.items 0 ≡ Some o → result
+        ≡ LogFault.Conflict (op_dot o) }
 {
     match left.front() {
         Some(op) => LogFault::Conflict(op.dot()),
@@ -120,7 +122,8 @@ fn appended_ops<A: Allocator>(
     Ok(ops)
 }
 
-// The operations of both, moved: those of one after those of the other where they can stand so, and walked at once where not.
+// The operations of both, moved: those of one after those of the other where they can stand so, and
+// walked at once where not.
 pub(crate) fn joined_ops<A: Allocator + Clone>(
     left: Vec<Op<A>, A>,
     right: Vec<Op<A>, A>,

@@ -1,12 +1,14 @@
 //! The union of logs that agree, made by moving one operation after another.
 
-ghost use Rattle.std.specs.Prelude.{◌≡◌, ◌++◌, ◌∷◌, [], Some, slice_get, drop, IfOk, IfErr, OnOk, map as list_map};
+ghost use Rattle.std.specs.Prelude.{◌≡◌, ◌++◌, ◌∷◌, [], Some, slice_get, drop, IfOk, IfErr, OnOk};
+ghost use Rattle.std.specs.Prelude.{map as list_map};
 ghost use Rattle.std.specs.FinMap as map;
 ghost use Rattle.mt_op.specs.OpValue.{Op};
 ghost use Rattle.mt_op.specs.Dots.{op_dot};
 ghost use Rattle.mt_opcodec.specs.Laws.{PairsAgree};
 ghost use Rattle.mt_opcodec.specs.Runs.{RunOf};
-ghost use Rattle.mt_opcodec.specs.Turns.{AreOpsOf, HaveOneEach, HaveTheSame, first_at, without_first};
+ghost use Rattle.mt_opcodec.specs.Turns.{AreOpsOf, HaveOneEach, HaveTheSame, first_at};
+ghost use Rattle.mt_opcodec.specs.Turns.{without_first};
 ghost use Rattle.mt_opcodec.specs.Union.{union_all};
 
 use crate::fault::LogFault;
@@ -65,7 +67,8 @@ fn pop_first<A: Allocator>(list: &mut VecDeque<Op<A>, A>) -> Option<Op<A>>
 // Takes the first operation of the list at an index, if there is one.
 fn take_first<A: Allocator>(lists: &mut Vec<VecDeque<Op<A>, A>, A>, i: usize) -> Option<Op<A>>
     ensures first { result ≡ first_at (list_map (λ l. l.items) lists.old.items) i }
-    ensures rest { list_map (λ l. l.items) lists.new.items ≡ without_first (list_map (λ l. l.items) lists.old.items) i }
+    ensures rest { list_map (λ l. l.items) lists.new.items
+        ≡ without_first (list_map (λ l. l.items) lists.old.items) i }
 {
     if i >= lists.len() {
         return None;
@@ -123,7 +126,8 @@ fn add_lists<A: Allocator + Clone>(
     lists: Vec<VecDeque<Op<A>, A>, A>,
 ) -> Result<(), LogFault>
     requires one_each { HaveOneEach log.old (list_map (λ l. l.items) lists.items) }
-    ensures ok { OnOk result (HaveTheSame log.old (list_map (λ l. l.items) lists.items) log.new []) }
+    ensures ok { OnOk result (HaveTheSame log.old (list_map (λ l. l.items) lists.items) log.new [])
+        }
     ensures err { IfErr result (λ fault. fault ≡ LogFault.Memory) }
 {
     let mut rest = VecDeque::from(lists);
@@ -135,8 +139,8 @@ fn add_lists<A: Allocator + Clone>(
     }
 }
 
-/// The union of logs that agree, made by moving one operation after another: in these turns, each the first that is left of a run, and
-/// then what is left.
+/// The union of logs that agree, made by moving one operation after another: in these turns, each
+/// the first that is left of a run, and then what is left.
 pub(crate) fn join_in_turns<A: Allocator + Clone>(
     alloc: A,
     logs: Vec<Log<A>, A>,

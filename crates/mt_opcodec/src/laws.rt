@@ -1,9 +1,11 @@
-//! What holds of texts, of logs and of unions: each law is the contract of a small function, which does nothing or only
-//! compares.
+//! What holds of texts, of logs and of unions: each law is the contract of a small function, which
+//! does nothing or only compares.
 
 ghost use Rattle.std.specs.Prelude.{◌≡◌, ◌↔◌, IsTrue};
 ghost use Rattle.mt_opcodec.specs.IsLog.{IsLog};
-ghost use Rattle.mt_opcodec.specs.Laws.{OpTextsAreApart, LogTextsAreApart, OneLogOfEachText, VersionIsGreatest, IsUnion, AgreePairwise, AgreeGrouped, LogsAreSets, ReadyStays};
+ghost use Rattle.mt_opcodec.specs.Laws.{OpTextsAreApart, LogTextsAreApart, OneLogOfEachText};
+ghost use Rattle.mt_opcodec.specs.Laws.{VersionIsGreatest, IsUnion, AgreePairwise, AgreeGrouped};
+ghost use Rattle.mt_opcodec.specs.Laws.{LogsAreSets, ReadyStays};
 
 use crate::fault::LogFault;
 use crate::log::Log;
@@ -24,8 +26,8 @@ pub fn one_log()
     ensures { OneLogOfEachText }
 {}
 
-/// A log in memory is one that bytes can encode: each operation is valid and stored under its own dot,
-/// and there are fewer than 2^64.
+/// A log in memory is one that bytes can encode: each operation is valid and stored under its own
+/// dot, and there are fewer than 2^64.
 pub fn logs_in_memory<A: Allocator>(log: &Log<A>)
     ensures { IsLog log.now }
 {
@@ -34,13 +36,14 @@ pub fn logs_in_memory<A: Allocator>(log: &Log<A>)
     let _ = log.len();
 }
 
-/// The version of a log is the greatest that one of its operations asks for, and 1 where none asks for a later one.
+/// The version of a log is the greatest that one of its operations asks for, and 1 where none asks
+/// for a later one.
 pub fn versions()
     ensures { VersionIsGreatest }
 {}
 
-/// At each dot the union of two logs has what the first has there, and else what the second has. It is associative
-/// and idempotent, and commutative where they agree.
+/// At each dot the union of two logs has what the first has there, and else what the second has. It
+/// is associative and idempotent, and commutative where they agree.
 pub fn unions()
     ensures { IsUnion }
 {}
@@ -51,13 +54,15 @@ pub fn agreements()
     ensures grouped { AgreeGrouped }
 {}
 
-/// A log is the set of the operations that it lists: where each stands under its own dot, it has those and no others. The empty log has
-/// none, and one operation more joins the set where nothing stands under its dot.
+/// A log is the set of the operations that it lists: where each stands under its own dot, it has
+/// those and no others. The empty log has none, and one operation more joins the set where nothing
+/// stands under its dot.
 pub fn logs_as_sets()
     ensures { LogsAreSets }
 {}
 
-/// An operation that is ready in a log stays ready when another one joins the log, and in the union of the log with another.
+/// An operation that is ready in a log stays ready when another one joins the log, and in the union
+/// of the log with another.
 pub fn growing_logs()
     ensures { ReadyStays }
 {}
@@ -72,7 +77,8 @@ pub fn equal_logs<A: Allocator>(a: &Log<A>, b: &Log<A>) -> bool
     a == b
 }
 
-/// Faults are equal where they are of one case and say the same of it: the same index and cause, or the same dot.
+/// Faults are equal where they are of one case and say the same of it: the same index and cause, or
+/// the same dot.
 pub fn equal_log_faults(fault: &LogFault, other: &LogFault) -> bool
     ensures { IsTrue result ↔ (fault.now ≡ other.now) }
 {

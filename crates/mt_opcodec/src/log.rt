@@ -1,6 +1,8 @@
 //! Logs.
 
-ghost use Rattle.std.specs.Prelude.{◌≡◌, ◌≢◌, ◌↔◌, ◌++◌, ◌∷◌, [], Ok, true, None, IfOk, IfErr, IfSome, OnOk, IsTrue, slice_get, length, List, ◌<◌, ◌^◌, map as list_map};
+ghost use Rattle.std.specs.Prelude.{◌≡◌, ◌≢◌, ◌↔◌, ◌++◌, ◌∷◌, [], Ok, true, None, IfOk, IfErr};
+ghost use Rattle.std.specs.Prelude.{IfSome, OnOk, IsTrue, slice_get, length, List, ◌<◌, ◌^◌};
+ghost use Rattle.std.specs.Prelude.{map as list_map};
 ghost use Rattle.std.specs.Option.{option_copied};
 ghost use Rattle.std.specs.FinMap as map;
 ghost use Rattle.mt_op.specs.Dots.{op_dot, IsGapFor};
@@ -27,8 +29,9 @@ use std::alloc::{AllocError, Allocator, Global};
 use std::collections::VecDeque;
 use std::marker::Model;
 
-/// A log: operations by rising dot, no two of them with one dot. Seen as the finite map from dot to operation. Logs are equal
-/// where they have the same operations. Kept as one run of operations for each replica.
+/// A log: operations by rising dot, no two of them with one dot. Seen as the finite map from dot to
+/// operation. Logs are equal where they have the same operations. Kept as one run of operations for
+/// each replica.
 #[derive(Drop)]
 pub struct Log<A: Allocator = Global> {
     runs: Vec<Run<A>, A>,
@@ -65,7 +68,8 @@ impl<A: Allocator> Log<A> {
         }
     }
 
-    /// The runs of its replicas, by rising replica: one after another they are the operations by rising dot.
+    /// The runs of its replicas, by rising replica: one after another they are the operations by
+    /// rising dot.
     pub fn runs(&self) -> &[Run<A>]
         ensures value { run_ops result.now ≡ operations self.now }
         ensures runs { AreRuns result.now }
@@ -120,8 +124,8 @@ impl<A: Allocator> Log<A> {
         is_another(self.get(&op.dot()), op)
     }
 
-    /// The operation at place `i`, counted from 0 by rising dot, or `None` where `i` is `len()` or more. Counts the operations
-    /// of each replica before it.
+    /// The operation at place `i`, counted from 0 by rising dot, or `None` where `i` is `len()` or
+    /// more. Counts the operations of each replica before it.
     pub fn op_at(&self, i: usize) -> Option<&Op<A>>
         ensures { option_copied result ≡ slice_get (operations self.now) i }
     {
@@ -135,8 +139,8 @@ impl<A: Allocator> Log<A> {
         refs_of_runs(alloc, self.runs())
     }
 
-    /// The least dot that names one operation in this log and another in the other one, or `None` where they agree. Takes no
-    /// memory. Looks up each operation of the other log in this one.
+    /// The least dot that names one operation in this log and another in the other one, or `None`
+    /// where they agree. Takes no memory. Looks up each operation of the other log in this one.
     pub fn conflict(&self, other: &Self) -> Option<Dot>
         ensures conflict { IfSome result (IsFirstConflict self.now other.now) }
         ensures none { result ≡ None → Agree self.now other.now }
@@ -156,7 +160,8 @@ impl<A: Allocator> Log<A> {
         }
     }
 
-    // The log of runs. Refused as `Memory` (0) where they have more operations than a number counts.
+    // The log of runs. Refused as `Memory` (0) where they have more operations than a number
+    // counts.
     fn of(runs: Vec<Run<A>, A>) -> Result<Self, LogFault>
         requires runs { AreRuns runs.items }
         ensures ok { IfOk result (λ log. log ≡ log_of (run_ops runs.items)) }
@@ -174,18 +179,21 @@ impl<A: Allocator + Clone> Log<A> {
     ghost use Rattle.mt_opcodec.specs.LogReading.{LogGives, log_at};
     ghost use Rattle.mt_opcodec.specs.Union.{Agree, union, MergeFails};
 
-    /// Reads the text of a log. Refused, in this order: `BadMagic` (11) where the first four bytes are missing
-    /// or not `RMTS`, `BadVersion` (12) where the fifth is missing or none of 1 to 3, `Damaged` (13) where there are
-    /// fewer than 45 bytes or the digest does not agree; then record by record, counted from 0, `BadRecord` (14) where
-    /// it is no operation, or one that came with a later version, and `OutOfOrder` (15) where its dot is not greater
-    /// than the one before; then `Trailing` (16) where bytes stand between the last record and the digest; last
-    /// `VersionTooHigh` (52) where no operation asks for that version, and it is not 1. `Memory` (0) is answered where an allocation
-    /// failed. Memory is taken record by record, never for the number of them that the text gives.
+    /// Reads the text of a log. Refused, in this order: `BadMagic` (11) where the first four bytes
+    /// are missing or not `RMTS`, `BadVersion` (12) where the fifth is missing or none of 1 to 3,
+    /// `Damaged` (13) where there are fewer than 45 bytes or the digest does not agree; then record
+    /// by record, counted from 0, `BadRecord` (14) where it is no operation, or one that came with
+    /// a later version, and `OutOfOrder` (15) where its dot is not greater than the one before;
+    /// then `Trailing` (16) where bytes stand between the last record and the digest; last
+    /// `VersionTooHigh` (52) where no operation asks for that version, and it is not 1. `Memory`
+    /// (0) is answered where an allocation failed. Memory is taken record by record, never for the
+    /// number of them that the text gives.
     pub fn read(alloc: A, bytes: &[u8]) -> Result<Self, LogFault>
         // What is read is the log text of its operations.
         ensures found { IfOk result (λ log. bytes.now ≡ log_bytes (operations log)) }
         // The log text of operations is read as them, unless memory ran out.
-        ensures only { (ops : List Op) → AreLogged ops → length ops < 2 ^ 64 → bytes.now ≡ log_bytes ops
+        ensures only { (ops : List Op) → AreLogged ops → length ops < 2 ^ 64 → bytes.now
+            ≡ log_bytes ops
             → LogGives operations result (Ok ops) }
         // Which fault it is.
         ensures exact { LogGives operations result (log_at bytes.now) }
@@ -193,8 +201,8 @@ impl<A: Allocator + Clone> Log<A> {
         log_of_text(alloc, bytes)
     }
 
-    /// The log's text: 45 bytes and those of its operations, in the least version that has them. Refused only as `Memory` (0), where an allocation
-    /// failed.
+    /// The log's text: 45 bytes and those of its operations, in the least version that has them.
+    /// Refused only as `Memory` (0), where an allocation failed.
     pub fn write(&self) -> Result<Vec<u8, A>, LogFault>
         ensures ok { IfOk result (λ text. text.items ≡ log_bytes (operations self.now)) }
         ensures err { IfErr result (λ fault. fault ≡ LogFault.Memory) }
@@ -206,8 +214,8 @@ impl<A: Allocator + Clone> Log<A> {
         Ok(text)
     }
 
-    /// The log of operations whose dots rise, moved into runs. Refused as `Memory` (0) where an allocation failed, and for
-    /// nothing else.
+    /// The log of operations whose dots rise, moved into runs. Refused as `Memory` (0) where an
+    /// allocation failed, and for nothing else.
     pub fn of_ops(alloc: A, ops: Vec<Op<A>, A>) -> Result<Self, LogFault>
         requires rising { AreLogged ops.items }
         ensures ok { IfOk result (λ log. log ≡ log_of ops.items) }
@@ -227,9 +235,10 @@ impl<A: Allocator + Clone> Log<A> {
         }
     }
 
-    /// Adds one operation: `true` where it is new, and `false` where the same one is there. Refused as
-    /// `Conflict` (17) with its dot where another operation has that dot, and as `Memory` (0) where an allocation
-    /// failed. After `false` or a refusal the log is unchanged, and the operation is dropped.
+    /// Adds one operation: `true` where it is new, and `false` where the same one is there. Refused
+    /// as `Conflict` (17) with its dot where another operation has that dot, and as `Memory` (0)
+    /// where an allocation failed. After `false` or a refusal the log is unchanged, and the
+    /// operation is dropped.
     pub fn add(&mut self, op: Op<A>) -> Result<bool, LogFault>
         ensures answer { Adds op self.old result }
         ensures added { result ≡ Ok true → self.new ≡ map.insert self.old (op_dot op) op }
@@ -247,10 +256,11 @@ impl<A: Allocator + Clone> Log<A> {
         }
     }
 
-    /// The union of two logs: each operation that either has, once, moved out of them. Refused as `Conflict` (17) with
-    /// the least dot that names one operation in this log and another in the other one, and as `Memory` (0) where an allocation
-    /// failed; both are then dropped. A run of a replica that only one has is moved whole, and one that begins where the
-    /// other ends is put after it; else both are walked at once.
+    /// The union of two logs: each operation that either has, once, moved out of them. Refused as
+    /// `Conflict` (17) with the least dot that names one operation in this log and another in the
+    /// other one, and as `Memory` (0) where an allocation failed; both are then dropped. A run of a
+    /// replica that only one has is moved whole, and one that begins where the other ends is put
+    /// after it; else both are walked at once.
     pub fn join(self, other: Self) -> Result<Self, LogFault>
         ensures ok { IfOk result (λ log. Agree self other × (log ≡ union self other)) }
         ensures err { IfErr result (MergeFails self other) }
@@ -263,9 +273,11 @@ impl<A: Allocator + Clone> Log<A> {
         }
     }
 
-    /// The union of two logs, as `join` makes it of copies of both, on this allocator. Its time is linear in their operations.
+    /// The union of two logs, as `join` makes it of copies of both, on this allocator. Its time is
+    /// linear in their operations.
     pub fn merge(alloc: A, left: &Self, right: &Self) -> Result<Self, LogFault>
-        ensures ok { IfOk result (λ log. Agree left.now right.now × (log ≡ union left.now right.now)) }
+        ensures ok { IfOk result (λ log. Agree left.now right.now
+            × (log ≡ union left.now right.now)) }
         ensures err { IfErr result (MergeFails left.now right.now) }
     {
         let copy = left.copied(&alloc)?;
@@ -273,8 +285,8 @@ impl<A: Allocator + Clone> Log<A> {
         copy.join(other)
     }
 
-    /// An equal log, on a clone of the allocator. Refused as `Memory` (0) where an allocation failed, and for nothing
-    /// else.
+    /// An equal log, on a clone of the allocator. Refused as `Memory` (0) where an allocation
+    /// failed, and for nothing else.
     pub fn try_clone(&self) -> Result<Self, LogFault>
         ensures ok { IfOk result (λ log. log ≡ self.now) }
         ensures err { IfErr result (λ fault. fault ≡ LogFault.Memory) }
@@ -360,7 +372,8 @@ impl<A: Allocator> PartialEq for Log<A> {
 
     ghost eq = { λ a b. pointwise nat_eq (op_texts (operations a)) (op_texts (operations b)) };
 
-    ghost laws = { on_per (λ log. op_texts (operations log)) (partial_equiv_from_equiv nat_list_eq_equiv) };
+    ghost laws = { on_per (λ log. op_texts (operations log))
+        (partial_equiv_from_equiv nat_list_eq_equiv) };
 
     fn eq(&self, other: &Self) -> bool {
         equal_runs(self.runs(), other.runs())

@@ -5,7 +5,9 @@ ghost use Rattle.std.specs.Cmp.Lexicographic.{pointwise};
 ghost use Rattle.sha2.specs.Sha256.{sha256};
 ghost use Rattle.mt_opcodec.specs.OpReading.{op_at};
 ghost use Rattle.mt_opcodec.specs.Versions.{newest_version, is_version, version_of};
-ghost use Rattle.mt_opcodec.specs.LogReading.{LogGives, record_of, fault_of, records_at, in_version, log_records_at, version_byte, sealed_at, counted_at, log_at};
+ghost use Rattle.mt_opcodec.specs.LogReading.{LogGives, record_of, fault_of, records_at};
+ghost use Rattle.mt_opcodec.specs.LogReading.{in_version, log_records_at, version_byte, sealed_at};
+ghost use Rattle.mt_opcodec.specs.LogReading.{counted_at, log_at};
 ghost use Rattle.mt_stamp.specs.StampOrder.{dot_cmp};
 ghost use Rattle.mt_op.specs.OpValue.{Op};
 ghost use Rattle.mt_op.specs.Rising.{is_after};
@@ -40,7 +42,8 @@ fn fault_of(index: u64, cause: ReadFault) -> LogFault
     }
 }
 
-// The operation at the front of the bytes, in a log of this version, as the record of this index after the dot `last`.
+// The operation at the front of the bytes, in a log of this version, as the record of this index
+// after the dot `last`.
 fn record_of<A: Allocator>(
     alloc: A,
     version: u8,
@@ -48,7 +51,8 @@ fn record_of<A: Allocator>(
     last: Option<Dot>,
     bytes: &[u8],
 ) -> Result<(Op<A>, &[u8]), LogFault>
-    ensures { LogGives (λ x. (x.0, x.1.now)) result (record_of index last (op_at version bytes.now)) }
+    ensures { LogGives (λ x. (x.0, x.1.now)) result (record_of index last (op_at version bytes.now))
+        }
 {
     match op_of(alloc, version, bytes) {
         Ok((op, rest)) => {
@@ -62,16 +66,18 @@ fn record_of<A: Allocator>(
     }
 }
 
-/// Reads this many operations of any kind, by rising dot, and nothing after them. Refused record by record, counted from 0: `BadRecord`
-/// (14) where it is no operation, `OutOfOrder` (15) where its dot is not greater than the one before; last `Trailing` (16) where
-/// bytes stand after them. `Memory` (0) is answered where an allocation failed. Memory is taken record by record, never for
+/// Reads this many operations of any kind, by rising dot, and nothing after them. Refused record by
+/// record, counted from 0: `BadRecord` (14) where it is no operation, `OutOfOrder` (15) where its
+/// dot is not greater than the one before; last `Trailing` (16) where bytes stand after them.
+/// `Memory` (0) is answered where an allocation failed. Memory is taken record by record, never for
 /// the count.
 pub fn read_ops<A: Allocator + Clone>(
     alloc: A,
     count: u64,
     bytes: &[u8],
 ) -> Result<Vec<Op<A>, A>, LogFault>
-    ensures { LogGives (λ ops. ops.items) result (records_at newest_version count 0 None bytes.now) }
+    ensures { LogGives (λ ops. ops.items) result (records_at newest_version count 0 None bytes.now)
+        }
 {
     let mut ops = Vec::new(alloc.clone()?);
     let mut last = None;

@@ -122,9 +122,10 @@ fn ops_in<A: Allocator>(logs: &[Log<A>]) -> usize {
     count
 }
 
-/// The turns that logs take, an index of a run for each operation, among the runs of the first log, of the second and so on: at each
-/// turn the operation of the least dot comes. It only tells in which order a walk over all logs is short. Takes memory for an index an
-/// operation, and for the numbers of one replica's operations.
+/// The turns that logs take, an index of a run for each operation, among the runs of the first log,
+/// of the second and so on: at each turn the operation of the least dot comes. It only tells in
+/// which order a walk over all logs is short. Takes memory for an index an operation, and for the
+/// numbers of one replica's operations.
 pub(crate) fn turns_of<A: Allocator, B: Allocator + Clone>(
     alloc: &B,
     logs: &[Log<A>],

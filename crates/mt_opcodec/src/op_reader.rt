@@ -4,7 +4,11 @@ ghost use Rattle.std.specs.Prelude.{◌≡◌, ℕ, ◌++◌, List, length, drop
 ghost use Rattle.mt_op.specs.Bodies.{act_of};
 ghost use Rattle.mt_op.specs.OpValue.{Op};
 ghost use Rattle.mt_op.specs.Valid.{IsOp};
-ghost use Rattle.mt_opcodec.specs.OpReading.{Gives, add_track_at, move_track_at, add_clip_at, move_clip_at, trim_clip_at, set_gain_at, set_mute_at, remove_at, restore_at, add_marker_at, move_marker_at, retitle_at, set_fade_at, set_marker_length_at, act_at, is_newer, act_in, op_after, op_at};
+ghost use Rattle.mt_opcodec.specs.OpReading.{Gives, add_track_at, move_track_at, add_clip_at};
+ghost use Rattle.mt_opcodec.specs.OpReading.{move_clip_at, trim_clip_at, set_gain_at, set_mute_at};
+ghost use Rattle.mt_opcodec.specs.OpReading.{remove_at, restore_at, add_marker_at, move_marker_at};
+ghost use Rattle.mt_opcodec.specs.OpReading.{retitle_at, set_fade_at, set_marker_length_at, act_at};
+ghost use Rattle.mt_opcodec.specs.OpReading.{is_newer, act_in, op_after, op_at};
 ghost use Rattle.mt_opcodec.specs.OpText.{op_text};
 ghost use Rattle.mt_opcodec.specs.Versions.{newest_version};
 
@@ -306,12 +310,12 @@ pub(crate) fn op_of<A: Allocator>(
     }
 }
 
-/// Reads the operation that stands at the front of the bytes, and says how many bytes its text has; what
-/// follows is not looked at. Where the bytes do not begin with one, the first field at fault, from left to
-/// right, is refused: as `Truncated` (8) where the bytes end before it does, as `BadTag` (9) where it is the
-/// kind byte and none of 1 to 14, and as `BadField` (10) where it is another and not allowed. `Memory` (0) is answered
-/// where the growth of the title or of the tags was refused. Memory is taken tag by tag, never for the number of
-/// them that the bytes give.
+/// Reads the operation that stands at the front of the bytes, and says how many bytes its text has;
+/// what follows is not looked at. Where the bytes do not begin with one, the first field at fault,
+/// from left to right, is refused: as `Truncated` (8) where the bytes end before it does, as
+/// `BadTag` (9) where it is the kind byte and none of 1 to 14, and as `BadField` (10) where it is
+/// another and not allowed. `Memory` (0) is answered where the growth of the title or of the tags
+/// was refused. Memory is taken tag by tag, never for the number of them that the bytes give.
 pub fn read_op<A: Allocator>(alloc: A, bytes: &[u8]) -> Result<(Op<A>, usize), ReadFault>
     // What is read stands at the front.
     ensures found { IfOk result (λ x. IsOp x.0 × (x.1 ≡ length (op_text x.0))

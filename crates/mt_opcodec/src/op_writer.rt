@@ -2,9 +2,13 @@
 
 ghost use Rattle.std.specs.Prelude.{◌≡◌, ◌<◌, ◌^◌, ◌++◌, length, OnOk, OnErr, IsTrue};
 ghost use Rattle.mt_op.specs.Bodies.{act_of};
-ghost use Rattle.mt_op.specs.OpValue.{AddTrack, MoveTrack, AddClip, MoveClip, TrimClip, SetGain, SetMute, Remove, Restore, AddMarker, MoveMarker, Retitle, SetFade, SetMarkerLength};
+ghost use Rattle.mt_op.specs.OpValue.{AddTrack, MoveTrack, AddClip, MoveClip, TrimClip, SetGain};
+ghost use Rattle.mt_op.specs.OpValue.{SetMute, Remove, Restore, AddMarker, MoveMarker, Retitle};
+ghost use Rattle.mt_op.specs.OpValue.{SetFade, SetMarkerLength};
 ghost use Rattle.mt_op.specs.Valid.{tags_are_good};
-ghost use Rattle.mt_opcodec.specs.OpText.{stamp_bytes, flag_bytes, place_bytes, title_bytes, frame_bytes, trim_bytes, fades_bytes, gain_bytes, tags_bytes, act_bytes, op_text};
+ghost use Rattle.mt_opcodec.specs.OpText.{stamp_bytes, flag_bytes, place_bytes, title_bytes};
+ghost use Rattle.mt_opcodec.specs.OpText.{frame_bytes, trim_bytes, fades_bytes, gain_bytes};
+ghost use Rattle.mt_opcodec.specs.OpText.{tags_bytes, act_bytes, op_text};
 
 use mt_op::{Body, Digest, Gain, Op, Title};
 use mt_stamp::Stamp;
@@ -133,7 +137,8 @@ fn put_add_clip<A: Allocator>(
     offset: u32,
     len: u32,
 ) -> Result<(), AllocError>
-    ensures { OnOk result (out.new.items ≡ out.old.items ++ act_bytes (AddClip source.now track.now at offset len)) }
+    ensures { OnOk result (out.new.items ≡ out.old.items
+        ++ act_bytes (AddClip source.now track.now at offset len)) }
 {
     out.push(3)?;
     put_digest(out, source)?;
@@ -148,7 +153,8 @@ fn put_move_clip<A: Allocator>(
     track: &Stamp,
     at: u32,
 ) -> Result<(), AllocError>
-    ensures { OnOk result (out.new.items ≡ out.old.items ++ act_bytes (MoveClip clip.now track.now at)) }
+    ensures { OnOk result (out.new.items ≡ out.old.items
+        ++ act_bytes (MoveClip clip.now track.now at)) }
 {
     out.push(4)?;
     put_stamp(out, clip)?;
@@ -162,7 +168,8 @@ fn put_trim_clip<A: Allocator>(
     offset: u32,
     len: u32,
 ) -> Result<(), AllocError>
-    ensures { OnOk result (out.new.items ≡ out.old.items ++ act_bytes (TrimClip clip.now offset len)) }
+    ensures { OnOk result (out.new.items ≡ out.old.items
+        ++ act_bytes (TrimClip clip.now offset len)) }
 {
     out.push(5)?;
     put_stamp(out, clip)?;
@@ -242,7 +249,8 @@ fn put_retitle<A: Allocator, B: Allocator>(
     item: &Stamp,
     title: &Title<B>,
 ) -> Result<(), AllocError>
-    ensures { OnOk result (out.new.items ≡ out.old.items ++ act_bytes (Retitle item.now title.now)) }
+    ensures { OnOk result (out.new.items ≡ out.old.items ++ act_bytes (Retitle item.now title.now))
+        }
 {
     out.push(12)?;
     put_stamp(out, item)?;
@@ -255,7 +263,8 @@ fn put_set_fade<A: Allocator>(
     fade_in: u32,
     fade_out: u32,
 ) -> Result<(), AllocError>
-    ensures { OnOk result (out.new.items ≡ out.old.items ++ act_bytes (SetFade clip.now fade_in fade_out)) }
+    ensures { OnOk result (out.new.items ≡ out.old.items
+        ++ act_bytes (SetFade clip.now fade_in fade_out)) }
 {
     out.push(13)?;
     put_stamp(out, clip)?;
@@ -267,7 +276,8 @@ fn put_set_marker_length<A: Allocator>(
     marker: &Stamp,
     len: u32,
 ) -> Result<(), AllocError>
-    ensures { OnOk result (out.new.items ≡ out.old.items ++ act_bytes (SetMarkerLength marker.now len)) }
+    ensures { OnOk result (out.new.items ≡ out.old.items
+        ++ act_bytes (SetMarkerLength marker.now len)) }
 {
     out.push(14)?;
     put_stamp(out, marker)?;
@@ -309,7 +319,8 @@ fn put_body<A: Allocator, B: Allocator>(
     }
 }
 
-// Writes the operation's text after what `out` holds. Where memory is refused, a part of it may have been written.
+// Writes the operation's text after what `out` holds. Where memory is refused, a part of it may
+// have been written.
 pub(crate) fn put_op<A: Allocator, B: Allocator>(
     out: &mut Vec<u8, A>,
     op: &Op<B>,
@@ -320,8 +331,8 @@ pub(crate) fn put_op<A: Allocator, B: Allocator>(
     put_body(out, op.body())
 }
 
-/// Appends the operation's text to `out`. Refused only where an allocation failed, and `out` then holds
-/// what it held before.
+/// Appends the operation's text to `out`. Refused only where an allocation failed, and `out` then
+/// holds what it held before.
 pub fn write_op<A: Allocator + Clone, B: Allocator>(
     op: &Op<B>,
     out: &mut Vec<u8, A>,

@@ -1,6 +1,7 @@
 //! The operations of one replica.
 
-ghost use Rattle.std.specs.Prelude.{◌≡◌, ◌≤◌, ◌∷◌, [], length, insert, IfOk, IfErr, OnOk, Ok, true, IsTrue};
+ghost use Rattle.std.specs.Prelude.{◌≡◌, ◌≤◌, ◌∷◌, [], length, insert, IfOk, IfErr, OnOk, Ok, true};
+ghost use Rattle.std.specs.Prelude.{IsTrue};
 ghost use Rattle.std.specs.Option.{option_copied};
 ghost use Rattle.std.specs.FinMap as map;
 ghost use Rattle.mt_op.specs.Dots.{dots_rise, IsAt, IsGapFor};
@@ -32,8 +33,8 @@ impl<A: Allocator> Model for Run<A> {
     ghost invariant = { λ r. IsRun (record { replica = r.replica; ops = r.ops.items }) };
 }
 
-// The place of the operation with this dot, or the one at which it would go: at the end without a search where all dots
-// are smaller or it is the last.
+// The place of the operation with this dot, or the one at which it would go: at the end without a
+// search where all dots are smaller or it is the last.
 fn place_of<A: Allocator>(ops: &[Op<A>], dot: Dot) -> Result<usize, usize>
     requires { IsTrue (dots_rise ops.now) }
     ensures found { IfOk result (IsAt ops.now dot) }
@@ -95,7 +96,8 @@ impl<A: Allocator> Run<A> {
 
     // The run of one operation, in a block of its own size.
     pub(crate) fn of(alloc: A, op: Op<A>) -> Result<Self, AllocError>
-        ensures ok { IfOk result (λ run. run ≡ record { replica = op.stamp.replica; ops = op ∷ [] }) }
+        ensures ok { IfOk result (λ run. run ≡ record { replica = op.stamp.replica; ops = op ∷ [] })
+            }
         ensures is_run { IfOk result IsRun }
     {
         let replica = op.dot().replica;
@@ -118,7 +120,8 @@ impl<A: Allocator> Run<A> {
     pub(crate) fn add(&mut self, op: Op<A>) -> Result<bool, LogFault>
         requires { op.stamp.replica ≡ self.old.replica }
         ensures answer { Adds op (log_of self.old.ops) result }
-        ensures added { result ≡ Ok true → log_of self.new.ops ≡ map.insert (log_of self.old.ops) (op_dot op) op }
+        ensures added { result ≡ Ok true → log_of self.new.ops
+            ≡ map.insert (log_of self.old.ops) (op_dot op) op }
         ensures kept { ¬ (result ≡ Ok true) → self.new ≡ self.old }
         ensures replica { self.new.replica ≡ self.old.replica }
         ensures was_run { IsRun self.old }

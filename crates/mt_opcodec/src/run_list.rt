@@ -1,6 +1,7 @@
 //! What a log does with its runs.
 
-ghost use Rattle.std.specs.Prelude.{◌≡◌, ◌≢◌, ◌↔◌, ◌++◌, ◌∷◌, [], Ok, true, IfOk, IfErr, IfSome, OnOk, IsTrue, slice_get, length, map as list_map};
+ghost use Rattle.std.specs.Prelude.{◌≡◌, ◌≢◌, ◌↔◌, ◌++◌, ◌∷◌, [], Ok, true, IfOk, IfErr, IfSome};
+ghost use Rattle.std.specs.Prelude.{OnOk, IsTrue, slice_get, length, map as list_map};
 ghost use Rattle.std.specs.Option.{option_copied};
 ghost use Rattle.std.specs.FinMap as map;
 ghost use Rattle.mt_op.specs.Dots.{op_dot};
@@ -45,7 +46,8 @@ fn push_refs<'a, A: Allocator, B: Allocator>(
     refs: &mut Vec<&'a Op<A>, B>,
     ops: &'a [Op<A>],
 ) -> Result<(), AllocError>
-    ensures { OnOk result (list_map (λ o. o.now) refs.new.items ≡ list_map (λ o. o.now) refs.old.items ++ ops.now) }
+    ensures { OnOk result (list_map (λ o. o.now) refs.new.items
+        ≡ list_map (λ o. o.now) refs.old.items ++ ops.now) }
 {
     for op in ops {
         refs.push(op)?;

@@ -88,8 +88,9 @@ fn note_runs<'a, A: Allocator, B: Allocator + Clone>(
     Ok(())
 }
 
-// The first dot at which one of the logs clashes with those before it, or none where all agree, which is seen first, by a walk in these turns. Only where
-// they do not, it takes a map of references to all operations, to see which clash is the first: n log n for n of them.
+// The first dot at which one of the logs clashes with those before it, or none where all agree,
+// which is seen first, by a walk in these turns. Only where they do not, it takes a map of
+// references to all operations, to see which clash is the first: n log n for n of them.
 pub(crate) fn first_conflict<A: Allocator, B: Allocator + Clone>(
     alloc: B,
     logs: &[Log<A>],

@@ -29,9 +29,12 @@ pub(crate) fn emit<A: Allocator>(
     requires ended { EndBy segments.old.items start }
     ensures tidy { OnOk result (AreSortedDisjoint segments.new.items) }
     ensures ended { OnOk result (EndBy segments.new.items end) }
-    ensures said { OnOk result ((f w : ℕ) → SegmentIs segments.new.items f w → SegmentIs segments.old.items f w ⊎ ((start ≤ f) × (f < end) × (w ≡ which))) }
-    ensures kept { OnOk result ((f w : ℕ) → SegmentIs segments.old.items f w → SegmentIs segments.new.items f w) }
-    ensures told { OnOk result ((f : ℕ) → start ≤ f → f < end → SegmentIs segments.new.items f which) }
+    ensures said { OnOk result ((f w : ℕ) → SegmentIs segments.new.items f w
+        → SegmentIs segments.old.items f w ⊎ ((start ≤ f) × (f < end) × (w ≡ which))) }
+    ensures kept { OnOk result ((f w : ℕ) → SegmentIs segments.old.items f w
+        → SegmentIs segments.new.items f w) }
+    ensures told { OnOk result ((f : ℕ) → start ≤ f → f < end
+        → SegmentIs segments.new.items f which) }
 {
     if is_last(segments.as_slice(), start, which) {
         let last = segments.len() - 1;

@@ -5,7 +5,8 @@ use mt_stamp::Stamp;
 /// The frames that something covers, and the stamp that gave it its place.
 #[derive(Clone, Copy, Debug, PartialEq, Eq)]
 pub struct Span {
-    /// The stamp of the operation that gave the place: the greatest of those that cover a frame is on top there.
+    /// The stamp of the operation that gave the place: the greatest of those that cover a frame is
+    /// on top there.
     pub place: Stamp,
     /// The first frame that is covered.
     pub start: u32,

@@ -1,6 +1,7 @@
 //! The walk over the spans, by their starts.
 
-ghost use Rattle.std.specs.Prelude.{◌≡◌, ℕ, ◌+◌, ◌^◌, ◌<◌, ◌≤◌, length, OnOk, IfOk, IfErr, IfSome, IfNone, IsSome, Some, None, false};
+ghost use Rattle.std.specs.Prelude.{◌≡◌, ℕ, ◌+◌, ◌^◌, ◌<◌, ◌≤◌, length, OnOk, IfOk, IfErr, IfSome};
+ghost use Rattle.std.specs.Prelude.{IfNone, IsSome, Some, None, false};
 ghost use Rattle.std.specs.Ordering.{is_lt};
 ghost use Rattle.std.specs.BTreeMap.{get};
 ghost use Rattle.mt_stamp.specs.StampOrder.{Stamp, stamp_cmp};
@@ -34,7 +35,8 @@ struct Top {
 fn top_of<A: Allocator>(active: &BTreeMap<Stamp, Cover, A>) -> Option<Top>
     ensures none { IfNone result ((q : Stamp) → get stamp_cmp active.now q ≡ None) }
     ensures there { IfSome result (λ t. get stamp_cmp active.now t.place ≡ Some t.cover) }
-    ensures greatest { IfSome result (λ t. (q : Stamp) → IsSome (get stamp_cmp active.now q) → is_lt (stamp_cmp t.place q) ≡ false) }
+    ensures greatest { IfSome result (λ t. (q : Stamp) → IsSome (get stamp_cmp active.now q)
+        → is_lt (stamp_cmp t.place q) ≡ false) }
 {
     match active.last_key_value() {
         Some((place, cover)) => Some(Top {
@@ -55,9 +57,11 @@ fn settle<A: Allocator>(
     from: u64,
     limit: u64,
 ) -> Result<(), AllocError>
-    requires swept { Swept spans.now (Begun order.now begun) from (get stamp_cmp active.old) segments.old.items }
+    requires swept { Swept spans.now (Begun order.now begun) from (get stamp_cmp active.old)
+        segments.old.items }
     requires order { from ≤ limit }
-    ensures ok { OnOk result (Swept spans.now (Begun order.now begun) limit (get stamp_cmp active.new) segments.new.items) }
+    ensures ok { OnOk result (Swept spans.now (Begun order.now begun) limit
+        (get stamp_cmp active.new) segments.new.items) }
 {
     let mut now = from;
     while now < limit {
@@ -138,9 +142,10 @@ fn sweep<A: Allocator + Clone>(
     Ok(segments)
 }
 
-/// The segments of spans: they rise, none is empty, no two overlap, and two that touch are of different spans. A frame lies in
-/// a segment exactly where a span covers it, and the segment names the span of greatest place stamp of those that do. The
-/// condition is that no two spans have one place stamp, as the clips of a track in a session have not. Refused only as `Memory` (0).
+/// The segments of spans: they rise, none is empty, no two overlap, and two that touch are of
+/// different spans. A frame lies in a segment exactly where a span covers it, and the segment names
+/// the span of greatest place stamp of those that do. The condition is that no two spans have one
+/// place stamp, as the clips of a track in a session have not. Refused only as `Memory` (0).
 pub fn segments<A: Allocator + Clone>(
     alloc: A,
     spans: &[Span],

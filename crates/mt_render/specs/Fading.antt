@@ -1,4 +1,5 @@
--- What the fades of a clip leave of its frames: what the code keeps, and no definition of the subject.
+-- What the fades of a clip leave of its frames: what the code keeps, and no definition of the
+-- subject.
 use Rattle.std.specs.Prelude.{◌≡◌, ℕ, ◌-◌, ◌*◌, ◌<◌, ◌≤◌, min}
 use Rattle.mt_render.specs.declared.fade.Fades.{Fades}
 use Rattle.mt_render.specs.Mix.{level, full}

@@ -9,4 +9,5 @@ pub record Format : Type 0 where
 
 -- 1 to 384,000 frames a second, 16 or 24 bits, one or two channels
 abbrev pub is_layout : Format → Bool
-is_layout l = (nat_le 1 l.rate && nat_le l.rate 384000) && ((l.bits == 16 || l.bits == 24) && (l.channels == 1 || l.channels == 2))
+is_layout l = (nat_le 1 l.rate && nat_le l.rate 384000)
+    && ((l.bits == 16 || l.bits == 24) && (l.channels == 1 || l.channels == 2))

@@ -1,5 +1,7 @@
--- The spans of a track's clips, and what their segments add up to: what the code keeps, and no definition of the subject.
-use Rattle.std.specs.Prelude.{◌≡◌, ℕ, ◌-◌, ◌<◌, Bool, ◌&&◌, nat_le, nat_lt, if◌then◌else◌, List, [], ◌∷◌, length, slice_index_or, false, ℤ, pos, ◌+ℤ◌}
+-- The spans of a track's clips, and what their segments add up to: what the code keeps, and no
+-- definition of the subject.
+use Rattle.std.specs.Prelude.{◌≡◌, ℕ, ◌-◌, ◌<◌, Bool, ◌&&◌, nat_le, nat_lt, if◌then◌else◌, List, []}
+use Rattle.std.specs.Prelude.{◌∷◌, length, slice_index_or, false, ℤ, pos, ◌+ℤ◌}
 use Rattle.mt_stamp.specs.StampOrder.{Stamp}
 use Rattle.mt_op.specs.Gain.{Gain}
 use Rattle.mt_sessionview.specs.SessionValue.{Clip}
@@ -14,7 +16,9 @@ abbrev pub nowhere : Stamp
 nowhere = record { clock = 0; replica = record { 0 = 0 }; seq = 0 }
 
 abbrev pub clip_at : List Clip → ℕ → Clip
-clip_at clips i = slice_index_or clips i (record { clip = nowhere; place = nowhere; at = 0; offset = 0; len = 0; gain = record { num = 0; den = 1 }; mute = false; fade_in = 0; fade_out = 0; source = record { 0 = [] } })
+clip_at clips i = slice_index_or clips i (record { clip = nowhere; place = nowhere; at = 0; offset =
+    0; len = 0; gain = record { num = 0; den = 1 }; mute = false; fade_in = 0; fade_out = 0; source
+    = record { 0 = [] } })
 
 -- what a clip covers: nothing where it is muted
 abbrev pub span_of : Clip → Span
@@ -36,4 +40,5 @@ lane_sum value (s ∷ ss) f = (if is_in s f then value s.which else pos 0) +ℤ 
 
 -- what the clip of an index contributes at a frame
 abbrev pub clip_value : Sources → Gain → List Clip → ℕ → ℕ → ℕ → ℤ
-clip_value sources gain clips f c w = contribution (clip_at clips w) gain (f - (clip_at clips w).at) (heard (source_of sources (clip_at clips w).source) (clip_at clips w) f c)
+clip_value sources gain clips f c w = contribution (clip_at clips w) gain (f - (clip_at clips w).at)
+    (heard (source_of sources (clip_at clips w).source) (clip_at clips w) f c)

@@ -1,5 +1,7 @@
 -- The mix (profile): each sample of a programme by itself.
-use Rattle.std.specs.Prelude.{ℕ, ◌+◌, ◌*◌, ◌-◌, ◌^◌, min, max, not, ◌&&◌, ◌==◌, nat_lt, nat_le, Bool, if◌then◌else◌, List, [], ◌∷◌, Option, Some, None, ℤ, pos, negsuc, ◌+ℤ◌, ◌*ℤ◌}
+use Rattle.std.specs.Prelude.{ℕ, ◌+◌, ◌*◌, ◌-◌, ◌^◌, min, max, not, ◌&&◌, ◌==◌, nat_lt, nat_le}
+use Rattle.std.specs.Prelude.{Bool, if◌then◌else◌, List, [], ◌∷◌, Option, Some, None, ℤ, pos}
+use Rattle.std.specs.Prelude.{negsuc, ◌+ℤ◌, ◌*ℤ◌}
 use Rattle.std.specs.Int.{int_div_euclid, int_max, int_min}
 use Rattle.std.specs.Ordering.{is_lt}
 use Rattle.mt_stamp.specs.StampOrder.{stamp_cmp}
@@ -34,10 +36,11 @@ sounding (c ∷ cs) f = if sounds c f then upper c (sounding cs f) else sounding
 
 -- ---- what it contributes
 
--- What is heard of a clip at a frame of the session, on an output channel: its recording's sample at 32-bit scale, on the
--- last channel where there are fewer, and silence past the recording's end.
+-- What is heard of a clip at a frame of the session, on an output channel: its recording's sample
+-- at 32-bit scale, on the last channel where there are fewer, and silence past the recording's end.
 abbrev pub heard : List ℕ → Clip → ℕ → ℕ → ℤ
-heard text clip f c = sample_or_silence text (clip.offset + (f - clip.at)) (min c (channels_of text - 1))
+heard text clip f c = sample_or_silence text (clip.offset + (f - clip.at))
+    (min c (channels_of text - 1))
 
 -- z / n, rounded toward minus infinity
 abbrev pub floored : ℤ → ℕ → ℤ
@@ -47,27 +50,32 @@ floored z n = int_div_euclid z (pos n)
 abbrev pub rounded : ℤ → ℕ → ℤ
 rounded p q = floored (pos 2 *ℤ p +ℤ pos q) (2 * q)
 
--- A fade is a gain that rises frame by frame: `level` out of `full` at so many frames from its silent end. A fade of no frames is none: 1 out of 1.
+-- A fade is a gain that rises frame by frame: `level` out of `full` at so many frames from its
+-- silent end. A fade of no frames is none: 1 out of 1.
 abbrev pub level : ℕ → ℕ → ℕ
 level fade i = if fade == 0 then 1 else min i fade
 
 abbrev pub full : ℕ → ℕ
 full fade = if fade == 0 then 1 else fade
 
--- A sample of a clip's frame i, counted from its first, under the gains of the clip and of its track and under its fades: it fades in from its first
--- frame on, which is silent, and out to the frame behind its last, which would be.
+-- A sample of a clip's frame i, counted from its first, under the gains of the clip and of its
+-- track and under its fades: it fades in from its first frame on, which is silent, and out to the
+-- frame behind its last, which would be.
 abbrev pub contribution : Clip → Gain → ℕ → ℤ → ℤ
 contribution clip track i x =
-    rounded (x *ℤ pos ((clip.gain.num * track.num) * (level clip.fade_in i * level clip.fade_out (clip.len - i))))
+    rounded (x *ℤ pos ((clip.gain.num * track.num) * (level clip.fade_in i * level clip.fade_out
+        (clip.len - i))))
     ((clip.gain.den * track.den) * (full clip.fade_in * full clip.fade_out))
 
 abbrev pub clip_sample : Sources → Gain → ℕ → ℕ → Option Clip → ℤ
 clip_sample sources gain f c None = pos 0
-clip_sample sources gain f c (Some clip) = contribution clip gain (f - clip.at) (heard (source_of sources clip.source) clip f c)
+clip_sample sources gain f c (Some clip) = contribution clip gain (f - clip.at)
+    (heard (source_of sources clip.source) clip f c)
 
 -- A muted track gives nothing, and neither does one of which no clip sounds.
 abbrev pub track_sample : Sources → ℕ → ℕ → Track → ℤ
-track_sample sources f c track = if track.mute then pos 0 else clip_sample sources track.gain f c (sounding track.clips f)
+track_sample sources f c track = if track.mute then pos 0 else clip_sample sources track.gain f c
+    (sounding track.clips f)
 
 -- the sum over the tracks
 abbrev pub mixed : Sources → ℕ → ℕ → List Track → ℤ
@@ -82,7 +90,8 @@ cut_to k low top s = int_min top (int_max low (floored (s +ℤ pos (2 ^ (k - 1))
 
 -- 24 bits, or 16
 abbrev pub output : ℕ → ℤ → ℤ
-output bits s = if nat_lt bits 24 then cut_to 16 (negsuc 32767) (pos 32767) s else cut_to 8 (negsuc 8388607) (pos 8388607) s
+output bits s = if nat_lt bits 24 then cut_to 16 (negsuc 32767) (pos 32767) s else cut_to 8
+    (negsuc 8388607) (pos 8388607) s
 
 -- The sample of a programme in a frame, on a channel.
 abbrev pub mixed_sample : Programme → ℕ → ℕ → ℤ

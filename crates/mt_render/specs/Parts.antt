@@ -1,5 +1,6 @@
 -- What the parts of a mix give: what the code keeps, and no definition of the subject.
-use Rattle.std.specs.Prelude.{◌≡◌, ℕ, ◌+◌, ◌-◌, ◌*◌, ◌<◌, ◌≤◌, min, ◌&&◌, nat_le, nat_lt, if◌then◌else◌, List, [], ◌∷◌, slice_get, Some, ℤ, pos, ◌+ℤ◌, ◌*ℤ◌}
+use Rattle.std.specs.Prelude.{◌≡◌, ℕ, ◌+◌, ◌-◌, ◌*◌, ◌<◌, ◌≤◌, min, ◌&&◌, nat_le, nat_lt}
+use Rattle.std.specs.Prelude.{if◌then◌else◌, List, [], ◌∷◌, slice_get, Some, ℤ, pos, ◌+ℤ◌, ◌*ℤ◌}
 use Rattle.mt_bwfread.specs.Wave.{channels_of}
 use Rattle.mt_bwfread.specs.Fill.{sample_or_silence}
 use Rattle.mt_overlap.specs.declared.span.Segment.{Segment}
@@ -12,7 +13,9 @@ use Rattle.mt_render.specs.Fading.{loudness, most}
 abbrev pub gives : ℕ → ℕ → Part → ℤ
 gives f c p =
     if nat_le p.start f && nat_lt f p.end then
-    rounded (sample_or_silence p.wave.now (p.offset + (f - p.at)) (min c (channels_of p.wave.now - 1)) *ℤ pos (p.scale.num * loudness p.fades (f - p.at))) (p.scale.den * most p.fades)
+    rounded (sample_or_silence p.wave.now (p.offset + (f - p.at))
+        (min c (channels_of p.wave.now - 1)) *ℤ pos (p.scale.num * loudness p.fades (f - p.at)))
+        (p.scale.den * most p.fades)
     else pos 0
 
 -- a number in the frames from one on and below another, nothing in the others
@@ -40,4 +43,5 @@ pub record AreRising (ps : List Part) : Type 0 where
 
 -- each part has the frames of the segment of its index
 abbrev pub AreParts : List Segment → List Part → Type 0
-AreParts segs ps = (k : ℕ) (p : Part) → IsAt ps k p → (p.start ≡ (segment_at segs k).start) × (p.end ≡ (segment_at segs k).end)
+AreParts segs ps = (k : ℕ) (p : Part) → IsAt ps k p → (p.start ≡ (segment_at segs k).start)
+    × (p.end ≡ (segment_at segs k).end)

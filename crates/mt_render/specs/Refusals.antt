@@ -1,11 +1,13 @@
 -- When a programme is not mixed (profile).
-use Rattle.std.specs.Prelude.{◌≡◌, ℕ, ◌*◌, ◌/◌, ◌<◌, ◌≤◌, ◌⊎◌, Bool, true, false, not, ◌==◌, if◌then◌else◌, List, [], ◌∷◌, ◌++◌, Option, Some, None}
+use Rattle.std.specs.Prelude.{◌≡◌, ℕ, ◌*◌, ◌/◌, ◌<◌, ◌≤◌, ◌⊎◌, Bool, true, false, not, ◌==◌}
+use Rattle.std.specs.Prelude.{if◌then◌else◌, List, [], ◌∷◌, ◌++◌, Option, Some, None}
 use Rattle.std.specs.Ordering.{is_lt}
 use Rattle.mt_op.specs.declared.digest.Digest.{Digest}
 use Rattle.mt_sessionview.specs.SessionValue.{Clip, Track}
 use Rattle.mt_bwfread.specs.Wave.{rate_of}
 use Rattle.mt_render.specs.declared.fault.MixFault.{MixFault}
-use Rattle.mt_render.specs.declared.fault.MixFault.TheVariants.{Memory, MissingSource, RateDiffers, TooLong}
+use Rattle.mt_render.specs.declared.fault.MixFault.TheVariants.{Memory, MissingSource, RateDiffers}
+use Rattle.mt_render.specs.declared.fault.MixFault.TheVariants.{TooLong}
 use Rattle.mt_render.specs.Sources.{Sources, digest_cmp, found}
 use Rattle.mt_render.specs.Mix.{Programme, length_of}
 
@@ -45,7 +47,8 @@ pub record IsLeast (clips : List Clip) (fails : Digest → Bool) (d : Digest) : 
   pub among : IsAmong clip clips
   pub fault : fails clip.source ≡ true
   pub is : clip.source ≡ d
-  pub least : (c : Clip) → IsAmong c clips → fails c.source ≡ true → is_lt (digest_cmp c.source d) ≡ false
+  pub least : (c : Clip) → IsAmong c clips → fails c.source ≡ true → is_lt (digest_cmp c.source d)
+      ≡ false
 
 -- no clip fails it
 abbrev pub PassAll : List Clip → (Digest → Bool) → Type 0
@@ -69,17 +72,20 @@ size_of p = length_of p.tracks * (p.layout.channels * (p.layout.bits / 8))
 abbrev pub greatest_size : ℕ
 greatest_size = 4000000000
 
--- A programme is mixed where every audible clip's recording is there and of the rate, and the samples are not too many.
+-- A programme is mixed where every audible clip's recording is there and of the rate, and the
+-- samples are not too many.
 pub record IsMixable (p : Programme) : Type 0 where
   pub there : AllThere p
   pub rate : AllOfRate p
   pub size : size_of p ≤ greatest_size
 
--- The refusals, in their order: the least digest that is missing, the least of another rate, and samples that are too many.
+-- The refusals, in their order: the least digest that is missing, the least of another rate, and
+-- samples that are too many.
 abbrev pub IsMixFault : Programme → MixFault → Type 0
 IsMixFault p Memory = Unit {0}
 IsMixFault p (MissingSource d) = IsLeast (audible p.tracks) (is_missing p.sources) d
-IsMixFault p (RateDiffers d) = AllThere p × IsLeast (audible p.tracks) (rate_differs p.sources p.layout.rate) d
+IsMixFault p (RateDiffers d) = AllThere p × IsLeast (audible p.tracks)
+    (rate_differs p.sources p.layout.rate) d
 IsMixFault p TooLong = AllThere p × AllOfRate p × (greatest_size < size_of p)
 
 -- the refusals' numbers

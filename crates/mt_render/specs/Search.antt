@@ -10,4 +10,5 @@ lesser d None = d
 lesser d (Some e) = if is_lt (digest_cmp e d) then e else d
 
 abbrev pub least_with : (Digest → Bool) → Clip → Option Digest → Option Digest
-least_with fails c before = if c.mute then before else (if fails c.source then Some (lesser c.source before) else before)
+least_with fails c before = if c.mute then before else
+    (if fails c.source then Some (lesser c.source before) else before)

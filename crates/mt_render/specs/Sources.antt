@@ -41,14 +41,17 @@ HasAdded old files new = (d : Digest) → found new d ≡ found (old ++ sources_
 
 -- of several files, the first that is no wave file, and the first of its faults
 abbrev pub IsFirstFault : List (List ℕ) → ℕ → WaveFault → Type 0
-IsFirstFault files index fault = (bytes : List ℕ) × (AllByRecursion IsWave (take index files) × (slice_get files index ≡ Some bytes) × (fault_of bytes ≡ Some fault))
+IsFirstFault files index fault = (bytes : List ℕ) × (AllByRecursion IsWave (take index files)
+    × (slice_get files index ≡ Some bytes) × (fault_of bytes ≡ Some fault))
 
 -- what refuses one of several files: memory, or the first that is no wave file
 abbrev pub IsFileFault : List (List ℕ) → SourceFault → Type 0
 IsFileFault files Memory = Unit {0}
 IsFileFault files (Wave fault) = (index : ℕ) × IsFirstFault files index fault
 
--- what is there once putting several files was refused: those before the first that is no wave file, or as many, from the first on, as there was memory for
+-- what is there once putting several files was refused: those before the first that is no wave
+-- file, or as many, from the first on, as there was memory for
 abbrev pub AreLeft : Sources → List (List ℕ) → Sources → SourceFault → Type 0
 AreLeft old files new Memory = (count : ℕ) × HasAdded old (take count files) new
-AreLeft old files new (Wave fault) = (index : ℕ) × (IsFirstFault files index fault × HasAdded old (take index files) new)
+AreLeft old files new (Wave fault) = (index : ℕ) × (IsFirstFault files index fault
+    × HasAdded old (take index files) new)

@@ -23,7 +23,9 @@ pub(crate) fn fill_wide<A: Allocator>(
     samples: &mut [i32],
 )
     requires near { first + length samples.old / format.channels < 2 ^ 33 }
-    ensures { (k : ℕ) → k < length samples.new → at samples.new k ≡ output format.bits (lanes_give (first + k / format.channels) (k % format.channels) lanes.now) }
+    ensures { (k : ℕ) → k < length samples.new → at samples.new k
+        ≡ output format.bits (lanes_give (first + k / format.channels) (k % format.channels)
+        lanes.now) }
 {
     let bits = format.bits();
     let channels = usize::from(format.channels());
@@ -37,15 +39,18 @@ pub(crate) fn fill_wide<A: Allocator>(
 fn put_channel(samples: &mut [i32], sums: &[i64], channels: usize, channel: usize, bits: u16)
     requires room { length samples.old ≡ length sums.now * channels }
     requires in_channels { channel < channels }
-    ensures put { (k : ℕ) (z : ℤ) → k < length sums.now → IsNarrow z → int_wrap w64 (at sums.now k) ≡ int_wrap w64 z → at samples.new (k * channels + channel) ≡ output bits z }
-    ensures others { (j : ℕ) → ((k : ℕ) → k < length sums.now → j ≢ k * channels + channel) → at samples.new j ≡ at samples.old j }
+    ensures put { (k : ℕ) (z : ℤ) → k < length sums.now → IsNarrow z → int_wrap w64 (at sums.now k)
+        ≡ int_wrap w64 z → at samples.new (k * channels + channel) ≡ output bits z }
+    ensures others { (j : ℕ) → ((k : ℕ) → k < length sums.now → j ≢ k * channels + channel)
+        → at samples.new j ≡ at samples.old j }
 {
     for index in 0..sums.len() {
         samples[index * channels + channel] = put_out_narrow(bits, sums[index]);
     }
 }
 
-// The samples of at most 1,024 frames, channel after channel: what is read and what is summed stays in the nearest cache.
+// The samples of at most 1,024 frames, channel after channel: what is read and what is summed stays
+// in the nearest cache.
 fn fill_frames<A: Allocator>(
     lanes: &[Lane<'_, '_, A>],
     format: Format,
@@ -57,7 +62,9 @@ fn fill_frames<A: Allocator>(
     requires short { frames ≤ 1024 }
     requires room { length samples.old ≡ frames * format.channels }
     requires narrow { (f c : ℕ) → IsNarrow (lanes_give f c lanes.now) }
-    ensures { (k c : ℕ) → k < frames → c < format.channels → at samples.new (k * format.channels + c) ≡ output format.bits (lanes_give (first + k) c lanes.now) }
+    ensures { (k c : ℕ) → k < frames → c < format.channels
+        → at samples.new (k * format.channels + c) ≡ output format.bits
+        (lanes_give (first + k) c lanes.now) }
 {
     let bits = format.bits();
     let channels = format.channels();
@@ -86,7 +93,9 @@ pub(crate) fn fill_narrow<A: Allocator>(
     requires whole { length samples.old % format.channels ≡ 0 }
     requires near { first + length samples.old / format.channels < 2 ^ 33 }
     requires narrow { (f c : ℕ) → IsNarrow (lanes_give f c lanes.now) }
-    ensures { (k : ℕ) → k < length samples.new → at samples.new k ≡ output format.bits (lanes_give (first + k / format.channels) (k % format.channels) lanes.now) }
+    ensures { (k : ℕ) → k < length samples.new → at samples.new k
+        ≡ output format.bits (lanes_give (first + k / format.channels) (k % format.channels)
+        lanes.now) }
 {
     let channels = usize::from(format.channels());
     let frames = samples.len() / channels;

@@ -1,6 +1,7 @@
 //! The recordings that are at hand.
 
-ghost use Rattle.std.specs.Prelude.{◌≡◌, ◌≢◌, ℕ, ◌∷◌, [], Some, None, IfOk, OnOk, OnErr, IfErr, map, unwrap_or};
+ghost use Rattle.std.specs.Prelude.{◌≡◌, ◌≢◌, ℕ, ◌∷◌, [], Some, None, IfOk, OnOk, OnErr, IfErr};
+ghost use Rattle.std.specs.Prelude.{map, unwrap_or};
 ghost use Rattle.std.specs.List.{AllByRecursion};
 ghost use Rattle.sha2.specs.Sha256.{sha256};
 ghost use Rattle.mt_op.specs.declared.digest.Digest.{Digest as DigestOf};
@@ -16,7 +17,8 @@ use std::alloc::{AllocError, Allocator, Global};
 use std::collections::BTreeMap;
 use std::marker::Model;
 
-/// Wave files by the digests of their bytes. Contracts see a map from digests to bytes. The files are not copied.
+/// Wave files by the digests of their bytes. Contracts see a map from digests to bytes. The files
+/// are not copied.
 #[derive(Drop)]
 pub struct Catalogue<'a, A: Allocator = Global> {
     waves: BTreeMap<Digest, Wave<'a>, A>,
@@ -43,15 +45,18 @@ impl<'a, A: Allocator> Catalogue<'a, A> {
         }
     }
 
-    /// Puts a wave file under its digest, and answers that. A digest that is there is answered again, and keeps the bytes that it
-    /// has. Refused, in this order: what `Wave::read` refuses (26 to 32), and `Memory` (0); nothing is changed then.
+    /// Puts a wave file under its digest, and answers that. A digest that is there is answered
+    /// again, and keeps the bytes that it has. Refused, in this order: what `Wave::read` refuses
+    /// (26 to 32), and `Memory` (0); nothing is changed then.
     pub fn add(&mut self, bytes: &'a [u8]) -> Result<Digest, SourceFault>
     where
         A: Clone,
         ensures digest { IfOk result (λ d. d.0 ≡ sha256 bytes.now) }
         ensures wave { OnOk result (IsWave bytes.now) }
-        ensures first { IfOk result (λ d. found self.new d ≡ Some (unwrap_or (found self.old d) bytes.now)) }
-        ensures others { IfOk result (λ d. (e : DigestOf) → e ≢ d → found self.new e ≡ found self.old e) }
+        ensures first { IfOk result (λ d. found self.new d
+            ≡ Some (unwrap_or (found self.old d) bytes.now)) }
+        ensures others { IfOk result (λ d. (e : DigestOf) → e ≢ d → found self.new e
+            ≡ found self.old e) }
         ensures fault { IfErr result (IsSourceFault bytes.now) }
         ensures refused { OnErr result ((e : DigestOf) → found self.new e ≡ found self.old e) }
     {
@@ -68,8 +73,10 @@ impl<'a, A: Allocator> Catalogue<'a, A> {
     fn keep(&mut self, digest: Digest, wave: Wave<'a>) -> Result<(), AllocError>
     where
         A: Clone,
-        ensures first { OnOk result (found self.new digest ≡ Some (unwrap_or (found self.old digest) wave.entry)) }
-        ensures others { OnOk result ((e : DigestOf) → e ≢ digest → found self.new e ≡ found self.old e) }
+        ensures first { OnOk result (found self.new digest
+            ≡ Some (unwrap_or (found self.old digest) wave.entry)) }
+        ensures others { OnOk result ((e : DigestOf) → e ≢ digest → found self.new e
+            ≡ found self.old e) }
         ensures refused { OnErr result ((e : DigestOf) → found self.new e ≡ found self.old e) }
     {
         if !self.waves.contains_key(&digest) {
@@ -83,8 +90,10 @@ impl<'a, A: Allocator> Catalogue<'a, A> {
     where
         A: Clone,
         ensures wave { OnOk result (IsWave bytes.now) }
-        ensures first { OnOk result (found self.new digest ≡ Some (unwrap_or (found self.old digest) bytes.now)) }
-        ensures others { OnOk result ((e : DigestOf) → e ≢ digest → found self.new e ≡ found self.old e) }
+        ensures first { OnOk result (found self.new digest
+            ≡ Some (unwrap_or (found self.old digest) bytes.now)) }
+        ensures others { OnOk result ((e : DigestOf) → e ≢ digest → found self.new e
+            ≡ found self.old e) }
         ensures fault { IfErr result (IsSourceFault bytes.now) }
         ensures refused { OnErr result ((e : DigestOf) → found self.new e ≡ found self.old e) }
     {
@@ -97,7 +106,8 @@ impl<'a, A: Allocator> Catalogue<'a, A> {
         }
     }
 
-    /// Puts a wave file under its digest, which is at hand, as `add` does. Refused as `add` is; nothing is changed then.
+    /// Puts a wave file under its digest, which is at hand, as `add` does. Refused as `add` is;
+    /// nothing is changed then.
     pub fn add_hashed<B: Allocator>(&mut self, file: &'a HashedFile<B>) -> Result<(), SourceFault>
     where
         A: Clone,
@@ -112,11 +122,13 @@ impl<'a, A: Allocator> Catalogue<'a, A> {
         }
     }
 
-    /// Puts wave files under their digests, from left to right, as `add` does with one after another: of several of one digest the
-    /// first is kept. The digests are worked out together, four in about twice the time of one.
+    /// Puts wave files under their digests, from left to right, as `add` does with one after
+    /// another: of several of one digest the first is kept. The digests are worked out together,
+    /// four in about twice the time of one.
     ///
-    /// Refused as the first file that `Wave::read` refuses (26 to 32): those before it are kept then, and no other; and as `Memory`
-    /// (0): then as many are kept, from the first on, as there was memory for.
+    /// Refused as the first file that `Wave::read` refuses (26 to 32): those before it are kept
+    /// then, and no other; and as `Memory` (0): then as many are kept, from the first on, as there
+    /// was memory for.
     pub fn add_all(&mut self, alloc: A, files: &[&'a [u8]]) -> Result<(), SourceFault>
     where
         A: Clone,

@@ -11,8 +11,8 @@ pub(crate) fn upper(a: u64, b: u64) -> u64
     ((u128::from(a) * u128::from(b)) >> 64) as u64
 }
 
-/// A divisor, and what stands for a division by it: its inverse with 64 bits, and, for numbers that these are too few for, the lower 64
-/// of the 65 bits of its inverse with one bit more.
+/// A divisor, and what stands for a division by it: its inverse with 64 bits, and, for numbers that
+/// these are too few for, the lower 64 of the 65 bits of its inverse with one bit more.
 #[derive(Clone, Copy)]
 pub(crate) struct Divisor {
     pub(crate) den: u64,
@@ -26,7 +26,8 @@ pub(crate) struct Divisor {
     ghost nearer: { IsNearer den lower shift },
 }
 
-// How often two goes into what is a little less: two to the power of this is below the divisor, and twice that is not.
+// How often two goes into what is a little less: two to the power of this is below the divisor, and
+// twice that is not.
 fn shift_of(den: u64) -> u32
     requires from { 2 ≤ den }
     requires to { den ≤ 2 ^ 53 }
@@ -79,7 +80,8 @@ impl Divisor {
     {
         upper(number, self.inverse) >> self.shift
     }
-    /// The quotient of any number: a product, the mean of it and the number, rounded down, and a shift.
+    /// The quotient of any number: a product, the mean of it and the number, rounded down, and a
+    /// shift.
     #[inline]
     pub(crate) fn quotient_of_any(&self, number: u64) -> u64
         ensures { result ≡ number / self.now.den }

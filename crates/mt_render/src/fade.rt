@@ -1,6 +1,7 @@
 //! The fades of a clip: how much of each of its frames they leave.
 
-ghost use Rattle.std.specs.Prelude.{◌≡◌, ◌+◌, ◌-◌, ◌*◌, ◌/◌, ◌<◌, ◌≤◌, ◌^◌, length, true, min, max, IfSome, pos, ◌+ℤ◌, ◌*ℤ◌};
+ghost use Rattle.std.specs.Prelude.{◌≡◌, ◌+◌, ◌-◌, ◌*◌, ◌/◌, ◌<◌, ◌≤◌, ◌^◌, length, true, min, max};
+ghost use Rattle.std.specs.Prelude.{IfSome, pos, ◌+ℤ◌, ◌*ℤ◌};
 ghost use Rattle.mt_bwfread.specs.Fill.{at};
 ghost use Rattle.mt_render.specs.Mix.{rounded, level, full};
 ghost use Rattle.mt_render.specs.Sums.{HaveGained};
@@ -132,7 +133,8 @@ impl Fades {
     /// What is as loud between the ends of the two, where neither goes on, or both do.
     pub(crate) fn between(&self) -> Fades
         ensures len { result.len ≡ self.now.len }
-        ensures alike { AreAlike result self.now (min (rise self.now) (fall self.now)) (max (rise self.now) (fall self.now)) }
+        ensures alike { AreAlike result self.now (min (rise self.now) (fall self.now))
+            (max (rise self.now) (fall self.now)) }
     {
         if self.fall() < self.rise() {
             return *self;
@@ -147,7 +149,8 @@ impl Fades {
     /// What is as loud while the fade out goes on alone.
     pub(crate) fn falling(&self) -> Fades
         ensures len { result.len ≡ self.now.len }
-        ensures alike { AreAlike result self.now (max (rise self.now) (fall self.now)) self.now.len }
+        ensures alike { AreAlike result self.now (max (rise self.now) (fall self.now)) self.now.len
+            }
     {
         Fades {
             len: self.len,
@@ -159,7 +162,8 @@ impl Fades {
     /// What a sample of a frame of the clip gives under a gain and both fades.
     pub(crate) fn of(&self, x: i32, scale: &Scale, index: u32) -> i64
         requires { index ≤ self.now.len }
-        ensures { result ≡ rounded (x *ℤ pos (scale.now.num * loudness self.now index)) (scale.now.den * most self.now) }
+        ensures { result ≡ rounded (x *ℤ pos (scale.now.num * loudness self.now index))
+            (scale.now.den * most self.now) }
     {
         if self.are_none() {
             scale.of(x)
@@ -172,7 +176,8 @@ impl Fades {
     fn add_divided(&self, sums: &mut [i64], samples: &[i32], scale: &Scale, index: u32)
         requires long { length sums.old ≤ length samples.now }
         requires within { index + length sums.old ≤ self.now.len }
-        ensures { HaveGained sums.old sums.new (λ k. rounded (at samples.now k *ℤ pos (scale.now.num * loudness self.now (index + k))) (scale.now.den * most self.now)) }
+        ensures { HaveGained sums.old sums.new (λ k. rounded
+            (at samples.now k *ℤ pos (scale.now.num * loudness self.now (index + k))) (scale.now.den * most self.now)) }
     {
         let fades = *self;
         let full = fades.full();
@@ -184,7 +189,8 @@ impl Fades {
 
     // The same by products: none where the numbers are too great for it, or nothing is divided.
     fn ramp(&self, scale: &Scale) -> Option<Ramp>
-        ensures { IfSome result (λ r. (r.divisor.den ≡ scale.now.den * most self.now) × (r.most ≡ scale.now.num * most self.now)) }
+        ensures { IfSome result (λ r. (r.divisor.den ≡ scale.now.den * most self.now)
+            × (r.most ≡ scale.now.num * most self.now)) }
     {
         let full = self.full();
         let num = product(scale.num, full);
@@ -200,7 +206,8 @@ impl Fades {
         requires long { length sums.old ≤ length samples.now }
         requires within { index + length sums.old ≤ self.now.len }
         requires top { num * most self.now ≤ ramp.now.most }
-        ensures { HaveGained sums.old sums.new (λ k. rounded (at samples.now k *ℤ pos (num * loudness self.now (index + k))) ramp.now.divisor.den) }
+        ensures { HaveGained sums.old sums.new (λ k. rounded
+            (at samples.now k *ℤ pos (num * loudness self.now (index + k))) ramp.now.divisor.den) }
     {
         if ramp.most <= 1 << 30 {
             self.add_each::<Short>(sums, samples, ramp, num, index);
@@ -222,7 +229,8 @@ impl Fades {
         requires within { index + length sums.old ≤ self.now.len }
         requires top { num * most self.now ≤ ramp.now.most }
         requires below { 2 ^ 32 * ramp.now.most + 2 ^ 54 ≤ Q.below }
-        ensures { HaveGained sums.old sums.new (λ k. rounded (at samples.now k *ℤ pos (num * loudness self.now (index + k))) ramp.now.divisor.den) }
+        ensures { HaveGained sums.old sums.new (λ k. rounded
+            (at samples.now k *ℤ pos (num * loudness self.now (index + k))) ramp.now.divisor.den) }
     {
         let fades = *self;
         let ramp = *ramp;
@@ -236,7 +244,8 @@ impl Fades {
     pub(crate) fn add(&self, sums: &mut [i64], samples: &[i32], scale: &Scale, index: u32)
         requires long { length sums.old ≤ length samples.now }
         requires within { index + length sums.old ≤ self.now.len }
-        ensures { HaveGained sums.old sums.new (λ k. rounded (at samples.now k *ℤ pos (scale.now.num * loudness self.now (index + k))) (scale.now.den * most self.now)) }
+        ensures { HaveGained sums.old sums.new (λ k. rounded
+            (at samples.now k *ℤ pos (scale.now.num * loudness self.now (index + k))) (scale.now.den * most self.now)) }
     {
         if self.are_none() {
             scale.add(sums, samples);

@@ -6,7 +6,8 @@ ghost use Rattle.mt_render.specs.FormatValue.{is_layout};
 use crate::fault::FormatFault;
 use std::marker::Model;
 
-/// The format of what is rendered: 1 to 384,000 frames a second, 16 or 24 bits, one or two channels.
+/// The format of what is rendered: 1 to 384,000 frames a second, 16 or 24 bits, one or two
+/// channels.
 #[derive(Clone, Copy, Debug, PartialEq, Eq)]
 pub struct Format {
     rate: u32,
@@ -22,17 +23,20 @@ impl Model for Format {
 
     ghost view = { λ f. record { rate = f.rate; bits = f.bits; channels = f.channels } };
 
-    ghost invariant = { λ f. IsTrue (is_layout (record { rate = f.rate; bits = f.bits; channels = f.channels })) };
+    ghost invariant = { λ f. IsTrue (is_layout (record
+        { rate = f.rate; bits = f.bits; channels = f.channels })) };
 
     ghost inverse = { λ l. record { rate = l.rate; bits = l.bits; channels = l.channels } };
 }
 
 impl Format {
-    /// A format of its parts. Refused as `BadFormat` (47) where the rate is not 1 to 384,000, the bits are not 16 or 24, or the
-    /// channels not 1 or 2. Takes no memory.
+    /// A format of its parts. Refused as `BadFormat` (47) where the rate is not 1 to 384,000, the
+    /// bits are not 16 or 24, or the channels not 1 or 2. Takes no memory.
     pub fn new(rate: u32, bits: u16, channels: u16) -> Result<Format, FormatFault>
-        ensures ok { IfOk result (λ f. f ≡ record { rate = rate; bits = bits; channels = channels }) }
-        ensures bad_format { IsErrOf result FormatFault.BadFormat ↔ (is_layout (record { rate = rate; bits = bits; channels = channels }) ≡ false) }
+        ensures ok { IfOk result (λ f. f ≡ record { rate = rate; bits = bits; channels = channels })
+            }
+        ensures bad_format { IsErrOf result FormatFault.BadFormat
+            ↔ (is_layout (record { rate = rate; bits = bits; channels = channels }) ≡ false) }
     {
         let rate_fits = 1 <= rate && rate <= 384000;
         let bits_fit = bits == 16 || bits == 24;

@@ -7,7 +7,8 @@ use mt_op::Digest;
 use std::alloc::{Allocator, Global};
 use std::marker::Model;
 
-/// The bytes of a file, with their digest, which need not be worked out again. Contracts see the bytes.
+/// The bytes of a file, with their digest, which need not be worked out again. Contracts see the
+/// bytes.
 #[derive(Drop)]
 pub struct HashedFile<A: Allocator = Global> {
     digest: Digest,

@@ -106,7 +106,8 @@ impl<'c, 'a, A: Allocator> Lane<'c, 'a, A> {
         give(self.parts.as_slice(), frame, channel)
     }
 
-    /// Adds what the track contributes to the sums of the frames from `first` on. The samples are room to work in.
+    /// Adds what the track contributes to the sums of the frames from `first` on. The samples are
+    /// room to work in.
     pub(crate) fn add(&self, first: u64, channel: u16, sums: &mut [i64], samples: &mut [i32])
         requires long { length sums.old ≤ length samples.old }
         requires near { first < 2 ^ 33 }

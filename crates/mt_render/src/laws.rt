@@ -12,34 +12,39 @@ ghost use Rattle.mt_render.specs.Refusals.{IsAmong};
 
 use crate::fault::{MixFault, SourceFault};
 
-/// Of clips whose places differ, that of the greatest place among those that would sound in a frame does, in whatever order they stand; where
-/// none would, none does.
+/// Of clips whose places differ, that of the greatest place among those that would sound in a frame
+/// does, in whatever order they stand; where none would, none does.
 pub fn sounding_clip()
-    ensures top { (clips : List Clip) (f : ℕ) (c : Clip) → DifferBy (λ (x : Clip). x.place) clips → IsAmong c clips → sounds c f ≡ true
-        → ((d : Clip) → IsAmong d clips → sounds d f ≡ true → is_lt (stamp_cmp c.place d.place) ≡ false) → sounding clips f ≡ Some c }
-    ensures none { (clips : List Clip) (f : ℕ) → ((d : Clip) → IsAmong d clips → sounds d f ≡ false) → sounding clips f ≡ None }
+    ensures top { (clips : List Clip) (f : ℕ) (c : Clip) → DifferBy (λ (x : Clip). x.place) clips
+        → IsAmong c clips → sounds c f ≡ true
+        → ((d : Clip) → IsAmong d clips → sounds d f ≡ true → is_lt (stamp_cmp c.place d.place)
+            ≡ false) → sounding clips f ≡ Some c }
+    ensures none { (clips : List Clip) (f : ℕ) → ((d : Clip) → IsAmong d clips → sounds d f ≡ false)
+        → sounding clips f ≡ None }
 {}
 
-/// Blocks of any sizes, end to end, are the samples of the programme in order: frame after frame, the channels of each side by side. So
-/// how a programme is cut into blocks changes nothing.
+/// Blocks of any sizes, end to end, are the samples of the programme in order: frame after frame,
+/// the channels of each side by side. So how a programme is cut into blocks changes nothing.
 pub fn blocks()
     ensures { BlocksAreSamples }
 {}
 
-/// Of the recordings only those count that are under the digests of audible clips, the clips that are not muted on tracks that are not: over two
-/// catalogues that find the same under each of these digests, or both nothing, both mixes can be made or neither, both are refused for the same, and
+/// Of the recordings only those count that are under the digests of audible clips, the clips that
+/// are not muted on tracks that are not: over two catalogues that find the same under each of these
+/// digests, or both nothing, both mixes can be made or neither, both are refused for the same, and
 /// each sample is one.
 pub fn same_recordings()
     ensures { OnlyAudibleCount }
 {}
 
-/// A programme that can be mixed is refused for want of memory alone, and one that is refused for something else is so for one reason, with one
-/// digest.
+/// A programme that can be mixed is refused for want of memory alone, and one that is refused for
+/// something else is so for one reason, with one digest.
 pub fn one_refusal()
     ensures { (p : Programme) → HasOneAnswer p }
 {}
 
-/// Refusals of a recording are equal where they are of one case and have the same fault of the file.
+/// Refusals of a recording are equal where they are of one case and have the same fault of the
+/// file.
 pub fn equal_source_faults(fault: &SourceFault, other: &SourceFault) -> bool
     ensures { IsTrue result ↔ (fault.now ≡ other.now) }
 {

@@ -1,7 +1,9 @@
-//! From a session and its recordings to samples: every station gets the same ones, since each is one formula over whole numbers.
+//! From a session and its recordings to samples: every station gets the same ones, since each is
+//! one formula over whole numbers.
 //!
-//! A `Catalogue` holds recordings by the digests of their files, a `Format` says how the programme is put out, and a `Mix` is made of a
-//! session and both, or says why it cannot be. It then fills blocks of any size with the programme's samples:
+//! A `Catalogue` holds recordings by the digests of their files, a `Format` says how the programme
+//! is put out, and a `Mix` is made of a session and both, or says why it cannot be. It then fills
+//! blocks of any size with the programme's samples:
 //!
 //! ```rust
 //! use mt_render::{Catalogue, Format, Mix};
@@ -25,19 +27,24 @@
 //! }
 //! ```
 //!
-//! A format is a rate of 1 to 384,000 frames a second, 16 or 24 bits, and 1 or 2 channels (else 47). `add` refuses what is no wave file
-//! (26 to 32), and `new` a recording that is missing (33) or of another rate (34), and samples of over 4,000,000,000 bytes (35); both also want of
-//! memory (0). Samples are whole numbers of the format's bits, the channels of a frame side by side. A block has whole frames and ends at
-//! `length()` frames at most, which the caller shows.
+//! A format is a rate of 1 to 384,000 frames a second, 16 or 24 bits, and 1 or 2 channels (else
+//! 47). `add` refuses what is no wave file (26 to 32), and `new` a recording that is missing (33)
+//! or of another rate (34), and samples of over 4,000,000,000 bytes (35); both also want of memory
+//! (0). Samples are whole numbers of the format's bits, the channels of a frame side by side. A
+//! block has whole frames and ends at `length()` frames at most, which the caller shows.
 //!
-//! At each frame, on each track that is not muted, the clip that was placed last sounds alone of those that cover the frame and are not
-//! muted. Its sample at 32-bit scale, times the gains of the clip and of the track and as far as it has faded in and not out, is rounded to
-//! the nearest whole number, halves up; the sum over the tracks is rounded to the bits that are put out, and cut to their range. `specs/Mix.antt` says it in a
-//! line a step, and `laws` which clip it is. `spans_of` tells what the clips of a track cover, for who has to know which of them sounds, and not its samples.
+//! At each frame, on each track that is not muted, the clip that was placed last sounds alone of
+//! those that cover the frame and are not muted. Its sample at 32-bit scale, times the gains of the
+//! clip and of the track and as far as it has faded in and not out, is rounded to the nearest whole
+//! number, halves up; the sum over the tracks is rounded to the bits that are put out, and cut to
+//! their range. `specs/Mix.antt` says it in a line a step, and `laws` which clip it is. `spans_of`
+//! tells what the clips of a track cover, for who has to know which of them sounds, and not its
+//! samples.
 //!
-//! What a block costs: for each track one search for the first segment that reaches into it, and for each sample of a segment a reading, a
-//! product and a sum, in loops that look at nothing else. A mix whose gains are so great that a sum may pass 64 bits is filled sample by
-//! sample in 128, to the same numbers.
+//! What a block costs: for each track one search for the first segment that reaches into it, and
+//! for each sample of a segment a reading, a product and a sum, in loops that look at nothing else.
+//! A mix whose gains are so great that a sum may pass 64 bits is filled sample by sample in 128, to
+//! the same numbers.
 #![tactic(auto)]
 
 mod block;

@@ -1,6 +1,7 @@
 //! The mix of a session.
 
-ghost use Rattle.std.specs.Prelude.{◌≡◌, ◌↔◌, ℕ, ◌+◌, ◌*◌, ◌/◌, IsTrue, ◌%◌, ◌<◌, ◌≤◌, ◌^◌, length, slice_index_or, pos, IfOk, IfErr};
+ghost use Rattle.std.specs.Prelude.{◌≡◌, ◌↔◌, ℕ, ◌+◌, ◌*◌, ◌/◌, IsTrue, ◌%◌, ◌<◌, ◌≤◌, ◌^◌, length};
+ghost use Rattle.std.specs.Prelude.{slice_index_or, pos, IfOk, IfErr};
 ghost use Rattle.mt_render.specs.Mix.{length_of, mixed_sample};
 ghost use Rattle.mt_render.specs.Refusals.{IsMixable, IsMixFault, greatest_size};
 
@@ -41,15 +42,17 @@ impl<'c, 'a, A: Allocator> Model for Mix<'c, 'a, A> {
 
     ghost Value = { Programme };
 
-    ghost view = { λ m. record { tracks = m.session.now.tracks; sources = m.catalogue.now; layout = m.format } };
+    ghost view = { λ m. record { tracks = m.session.now.tracks; sources = m.catalogue.now; layout =
+        m.format } };
 
     ghost invariant = { λ m. IsKept m };
 }
 
 impl<'c, 'a, A: Allocator> Mix<'c, 'a, A> {
-    /// The mix of a session. Refused, in this order: `MissingSource` (33) with the least digest of an audible clip that is not in
-    /// the catalogue, `RateDiffers` (34) with the least of one whose recording is of another rate than the format's, `TooLong`
-    /// (35) where the samples are over 4,000,000,000 bytes; and as `Memory` (0) where an allocation fails. A clip is audible where
+    /// The mix of a session. Refused, in this order: `MissingSource` (33) with the least digest of
+    /// an audible clip that is not in the catalogue, `RateDiffers` (34) with the least of one whose
+    /// recording is of another rate than the format's, `TooLong` (35) where the samples are over
+    /// 4,000,000,000 bytes; and as `Memory` (0) where an allocation fails. A clip is audible where
     /// neither it nor its track is muted, though others may lie over it.
     pub fn new(
         alloc: A,
@@ -59,9 +62,11 @@ impl<'c, 'a, A: Allocator> Mix<'c, 'a, A> {
     ) -> Result<Mix<'c, 'a, A>, MixFault>
     where
         A: Clone,
-        ensures value { IfOk result (λ m. m ≡ record { tracks = session.now.tracks; sources = catalogue.now; layout = format }) }
+        ensures value { IfOk result (λ m. m ≡ record { tracks = session.now.tracks; sources =
+            catalogue.now; layout = format }) }
         ensures ok { IfOk result IsMixable }
-        ensures err { IfErr result (IsMixFault (record { tracks = session.now.tracks; sources = catalogue.now; layout = format })) }
+        ensures err { IfErr result (IsMixFault (record { tracks = session.now.tracks; sources =
+            catalogue.now; layout = format })) }
     {
         let tracks = session.tracks.items();
         if let Some(digest) = least(tracks, &IsThere { catalogue }) {
@@ -105,14 +110,18 @@ impl<'c, 'a, A: Allocator> Mix<'c, 'a, A> {
         self.length
     }
 
-    /// Fills whole frames from `first` on, the channels side by side. The slice has a whole number of frames, which end at the
-    /// programme's length at most. Takes no memory.
+    /// Fills whole frames from `first` on, the channels side by side. The slice has a whole number
+    /// of frames, which end at the programme's length at most. Takes no memory.
     pub fn block(&self, first: u64, samples: &mut [i32])
         requires whole { length samples.old % self.now.layout.channels ≡ 0 }
-        requires within { first + length samples.old / self.now.layout.channels ≤ length_of self.now.tracks }
-        ensures { (k : ℕ) → k < length samples.new → slice_index_or samples.new k (pos 0) ≡ mixed_sample self.now (first + k / self.now.layout.channels) (k % self.now.layout.channels) }
+        requires within { first + length samples.old / self.now.layout.channels
+            ≤ length_of self.now.tracks }
+        ensures { (k : ℕ) → k < length samples.new → slice_index_or samples.new k (pos 0)
+            ≡ mixed_sample self.now (first + k / self.now.layout.channels)
+            (k % self.now.layout.channels) }
     {
-        // Every sum of a narrow mix is below 2^62. A clip at 65535/1 on a track at 65535/1 alone nearly reaches 2^63: it takes the wide way.
+        // Every sum of a narrow mix is below 2^62. A clip at 65535/1 on a track at 65535/1 alone
+        // nearly reaches 2^63: it takes the wide way.
         let lanes = self.lanes.as_slice();
         if self.narrow {
             fill_narrow(lanes, self.format, first, samples);

@@ -52,7 +52,8 @@ impl<'c, 'a> Part<'c, 'a> {
         self.fades.of(sample, &self.scale, index)
     }
 
-    /// Adds what the clip contributes to the sums of the frames from `first` on. The samples are room to work in.
+    /// Adds what the clip contributes to the sums of the frames from `first` on. The samples are
+    /// room to work in.
     pub(crate) fn add(&self, first: u64, channel: u16, sums: &mut [i64], samples: &mut [i32])
         requires long { length sums.old ≤ length samples.old }
         requires near { first < 2 ^ 33 }
@@ -75,11 +76,13 @@ impl<'c, 'a> Part<'c, 'a> {
         falling.add_at_once(first, channel, sums, samples);
     }
 
-    // The same in the clip's frames from one on and below another alone, by fades that leave as much of these.
+    // The same in the clip's frames from one on and below another alone, by fades that leave as
+    // much of these.
     fn cut(&self, from: u32, to: u32, fades: Fades) -> Part<'c, 'a>
         requires len { fades.len ≡ self.now.fades.len }
         requires alike { AreAlike fades self.now.fades from to }
-        ensures { (f c : ℕ) → gives f c result ≡ within (self.now.at + from) (self.now.at + to) f (gives f c self.now) }
+        ensures { (f c : ℕ) → gives f c result ≡ within (self.now.at + from) (self.now.at + to) f
+            (gives f c self.now) }
     {
         let at = u64::from(self.at);
         Part {

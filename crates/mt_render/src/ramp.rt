@@ -52,7 +52,8 @@ impl Ramp {
 #[inline]
 fn lifted(x: i32, num: u32, ramp: &Ramp) -> u64
     requires { num ≤ ramp.now.most }
-    ensures value { pos result ≡ (x *ℤ pos num +ℤ pos (ramp.now.divisor.den / 2)) +ℤ pos (ramp.now.divisor.den * ramp.now.bias) }
+    ensures value { pos result ≡ (x *ℤ pos num +ℤ pos (ramp.now.divisor.den / 2)) +ℤ pos
+        (ramp.now.divisor.den * ramp.now.bias) }
     ensures small { result < 2 ^ 32 * ramp.now.most + 2 ^ 54 }
 {
     let from_zero = (i64::from(x) + 2147483648) as u32;

@@ -1,6 +1,7 @@
 //! The gain of a clip on its track, reduced, with what makes it quick to multiply by.
 
-ghost use Rattle.std.specs.Prelude.{◌≡◌, ℕ, ◌+◌, ◌*◌, ◌/◌, ◌<◌, ◌≤◌, ◌^◌, length, pos, ◌+ℤ◌, ◌*ℤ◌, ℤ};
+ghost use Rattle.std.specs.Prelude.{◌≡◌, ℕ, ◌+◌, ◌*◌, ◌/◌, ◌<◌, ◌≤◌, ◌^◌, length, pos, ◌+ℤ◌, ◌*ℤ◌};
+ghost use Rattle.std.specs.Prelude.{ℤ};
 ghost use Rattle.mt_bwfread.specs.Fill.{at};
 ghost use Rattle.mt_render.specs.Divides.{Divides, Inverts};
 ghost use Rattle.mt_render.specs.Mix.{rounded};
@@ -27,8 +28,9 @@ fn divisor(a: u32, b: u32) -> u32
     x
 }
 
-/// A product of two gains in lowest terms. Half of `den` and `turns` times `den`, added to a product of `num` with any sample, leave
-/// nothing below zero: `lift` is what is added to the product of a sample that begins at zero.
+/// A product of two gains in lowest terms. Half of `den` and `turns` times `den`, added to a
+/// product of `num` with any sample, leave nothing below zero: `lift` is what is added to the
+/// product of a sample that begins at zero.
 #[derive(Clone, Copy)]
 pub(crate) struct Scale {
     pub(crate) num: u32,
@@ -125,7 +127,9 @@ fn scale_of(num: u32, den: u32) -> Scale
 impl Scale {
     /// The gain of a clip times that of its track.
     pub(crate) fn new(clip: Gain, track: Gain) -> Scale
-        ensures { (x : ℤ) (level full : ℕ) → 0 < full → rounded (x *ℤ pos (result.num * level)) (result.den * full) ≡ rounded (x *ℤ pos ((clip.num * track.num) * level)) ((clip.den * track.den) * full) }
+        ensures { (x : ℤ) (level full : ℕ) → 0 < full → rounded (x *ℤ pos (result.num * level))
+            (result.den * full) ≡ rounded (x *ℤ pos ((clip.num * track.num) * level))
+            ((clip.den * track.den) * full) }
     {
         let num = u32::from(clip.num()) * u32::from(track.num());
         let den = u32::from(clip.den()) * u32::from(track.den());
@@ -133,7 +137,8 @@ impl Scale {
         scale_of(num / common, den / common)
     }
 
-    /// What a sample contributes. A product of 32 bits by 32 and half a divisor stay below 2^63, so 64 bits are enough.
+    /// What a sample contributes. A product of 32 bits by 32 and half a divisor stay below 2^63, so
+    /// 64 bits are enough.
     #[inline]
     pub(crate) fn of(&self, x: i32) -> i64
         ensures { result ≡ rounded (x *ℤ pos self.now.num) self.now.den }
@@ -141,11 +146,12 @@ impl Scale {
         lifted(x, self.num, self.den / 2).div_euclid(i64::from(self.den))
     }
 
-    /// Adds what each sample contributes to the sum at its place: six loops to the same numbers, none of which looks at more than
-    /// its samples.
+    /// Adds what each sample contributes to the sum at its place: six loops to the same numbers,
+    /// none of which looks at more than its samples.
     pub(crate) fn add(&self, sums: &mut [i64], samples: &[i32])
         requires { length sums.old ≤ length samples.now }
-        ensures { HaveGained sums.old sums.new (λ k. rounded (at samples.now k *ℤ pos self.now.num) self.now.den) }
+        ensures { HaveGained sums.old sums.new (λ k. rounded (at samples.now k *ℤ pos self.now.num)
+            self.now.den) }
     {
         if self.den == 1 && self.num == 1 {
             add_each(sums, samples, &Unity);

@@ -68,7 +68,8 @@ fn lesser(digest: Digest, other: Option<Digest>) -> Digest
     }
 }
 
-// The least of a digest that may be there and of that of a clip, where it is not muted and fails a test.
+// The least of a digest that may be there and of that of a clip, where it is not muted and fails a
+// test.
 fn least_with<T: Test>(clip: &ClipView, test: &T, before: Option<Digest>) -> Option<Digest>
     ensures { result ≡ least_with (T.fails test.now) clip.now before }
 {
@@ -84,7 +85,8 @@ fn least_with<T: Test>(clip: &ClipView, test: &T, before: Option<Digest>) -> Opt
 
 // The least of a digest that may be there and of those that clips fail a test with.
 fn least_of_clips<T: Test>(clips: &[ClipView], test: &T, before: Option<Digest>) -> Option<Digest>
-    ensures { (seen : List Clip) → LeastOf seen (T.fails test.now) before → LeastOf (seen ++ unmuted clips.now) (T.fails test.now) result }
+    ensures { (seen : List Clip) → LeastOf seen (T.fails test.now) before
+        → LeastOf (seen ++ unmuted clips.now) (T.fails test.now) result }
 {
     let mut least = before;
     for clip in clips {

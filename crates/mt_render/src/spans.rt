@@ -26,8 +26,9 @@ fn span_of(clip: &ClipView) -> Span
     }
 }
 
-/// What the clips of a track cover, a span for each clip, in the order of the clips: the frames from its first on, as many as it is long, and
-/// none of one that is muted. Each has the place stamp of its clip, so `mt_overlap::segments` of them tells at which frames which clip sounds.
+/// What the clips of a track cover, a span for each clip, in the order of the clips: the frames
+/// from its first on, as many as it is long, and none of one that is muted. Each has the place
+/// stamp of its clip, so `mt_overlap::segments` of them tells at which frames which clip sounds.
 ///
 /// `AllocError` only where an allocation failed. In a time linear in the number of clips.
 pub fn spans_of<A: Allocator>(alloc: A, clips: &[ClipView]) -> Result<Vec<Span, A>, AllocError>

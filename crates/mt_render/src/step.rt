@@ -1,6 +1,7 @@
 //! From samples to what they add to sums: several ways to the same numbers.
 
-ghost use Rattle.std.specs.Prelude.{◌≡◌, ℕ, ◌+◌, ◌*◌, ◌/◌, ◌<◌, ◌≤◌, ◌^◌, length, pos, ◌+ℤ◌, ◌-ℤ◌, ◌*ℤ◌, ℤ};
+ghost use Rattle.std.specs.Prelude.{◌≡◌, ℕ, ◌+◌, ◌*◌, ◌/◌, ◌<◌, ◌≤◌, ◌^◌, length, pos, ◌+ℤ◌, ◌-ℤ◌};
+ghost use Rattle.std.specs.Prelude.{◌*ℤ◌, ℤ};
 ghost use Rattle.mt_bwfread.specs.Fill.{at};
 ghost use Rattle.mt_render.specs.Mix.{rounded};
 ghost use Rattle.mt_render.specs.Sums.{HaveGained};
@@ -48,7 +49,8 @@ impl GainKernel for Integer {
 // A product with half a divisor and `turns` divisors added, which is not below zero.
 #[inline]
 fn lifted(x: i32, scale: &Scale) -> u64
-    ensures value { pos result ≡ (x *ℤ pos scale.now.num +ℤ pos (scale.now.den / 2)) +ℤ pos (scale.now.den * scale.now.bias) }
+    ensures value { pos result ≡ (x *ℤ pos scale.now.num +ℤ pos (scale.now.den / 2)) +ℤ pos
+        (scale.now.den * scale.now.bias) }
     ensures small { result ≤ 4294967295 * scale.now.num + scale.now.bias_quotients }
 {
     let from_zero = (i64::from(x) + 2147483648) as u32;

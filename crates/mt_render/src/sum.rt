@@ -8,7 +8,8 @@ ghost use Rattle.mt_render.specs.Sums.{HaveGained, IsNarrow};
 use crate::lane::Lane;
 use std::alloc::Allocator;
 
-/// What all tracks give to a frame on a channel. Each gives less than 2^63 and there are fewer than 2^63, so 128 bits hold the sum.
+/// What all tracks give to a frame on a channel. Each gives less than 2^63 and there are fewer than
+/// 2^63, so 128 bits hold the sum.
 pub(crate) fn sum_of<A: Allocator>(lanes: &[Lane<'_, '_, A>], frame: u64, channel: u16) -> i128
     requires near { frame < 2 ^ 33 }
     ensures value { result ≡ lanes_give frame channel lanes.now }
@@ -21,7 +22,8 @@ pub(crate) fn sum_of<A: Allocator>(lanes: &[Lane<'_, '_, A>], frame: u64, channe
     sum
 }
 
-/// Adds what all tracks give to the sums of the frames from `first` on, modulo 2^64. The samples are room to work in.
+/// Adds what all tracks give to the sums of the frames from `first` on, modulo 2^64. The samples
+/// are room to work in.
 pub(crate) fn add_lanes<A: Allocator>(
     lanes: &[Lane<'_, '_, A>],
     first: u64,
@@ -39,8 +41,8 @@ pub(crate) fn add_lanes<A: Allocator>(
     }
 }
 
-/// Whether every sum is far below 2^62, so that 64 bits hold it and half of what is cut off too: no track gives more than 2^31 times
-/// its greatest gain, and these gains are together below 2^30.
+/// Whether every sum is far below 2^62, so that 64 bits hold it and half of what is cut off too: no
+/// track gives more than 2^31 times its greatest gain, and these gains are together below 2^30.
 pub(crate) fn are_narrow<A: Allocator>(lanes: &[Lane<'_, '_, A>]) -> bool
     ensures { IsTrue result → (f c : ℕ) → IsNarrow (lanes_give f c lanes.now) }
 {

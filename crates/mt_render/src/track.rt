@@ -1,10 +1,12 @@
 //! The lane of a track: a part for each segment of its clips.
 
-ghost use Rattle.std.specs.Prelude.{◌≡◌, ℕ, ◌+◌, ◌-◌, ◌*◌, ◌<◌, ◌≤◌, false, if◌then◌else◌, length, [], ◌∷◌, ◌++◌, ℤ, pos, ◌+ℤ◌, ◌*ℤ◌, OnOk, IfOk};
+ghost use Rattle.std.specs.Prelude.{◌≡◌, ℕ, ◌+◌, ◌-◌, ◌*◌, ◌<◌, ◌≤◌, false, if◌then◌else◌, length};
+ghost use Rattle.std.specs.Prelude.{[], ◌∷◌, ◌++◌, ℤ, pos, ◌+ℤ◌, ◌*ℤ◌, OnOk, IfOk};
 ghost use Rattle.mt_overlap.specs.Overlap.{segment_at};
 ghost use Rattle.mt_render.specs.Lanes.{clip_at, is_in, clip_value};
 ghost use Rattle.mt_render.specs.Fading.{loudness, most};
-ghost use Rattle.mt_render.specs.Mix.{rounded, contribution, heard, sounding, clip_sample, track_sample};
+ghost use Rattle.mt_render.specs.Mix.{rounded, contribution, heard, sounding, clip_sample};
+ghost use Rattle.mt_render.specs.Mix.{track_sample};
 ghost use Rattle.mt_render.specs.Parts.{all_give, lanes_give};
 ghost use Rattle.mt_render.specs.declared.part.Part.{Part as PartOf};
 ghost use Rattle.mt_render.specs.Refusals.{is_missing};
@@ -39,7 +41,9 @@ fn part_of<'c, 'a>(wave: &'c Wave<'a>, clip: ClipView, gain: Gain, segment: Segm
     ensures at { result.at ≡ clip.at }
     ensures offset { result.offset ≡ clip.offset }
     ensures wave { result.wave.now ≡ wave.now }
-    ensures scaled { (x : ℤ) (i : ℕ) → rounded (x *ℤ pos (result.scale.num * loudness result.fades i)) (result.scale.den * most result.fades) ≡ contribution clip gain i x }
+    ensures scaled { (x : ℤ) (i : ℕ) → rounded (x *ℤ pos
+        (result.scale.num * loudness result.fades i)) (result.scale.den * most result.fades)
+        ≡ contribution clip gain i x }
 {
     Part {
         start: segment.start,
@@ -67,9 +71,11 @@ fn add_part<'c, 'a, A: Allocator>(
     requires there { is_missing catalogue.now clip.source ≡ false }
     requires begun { clip.at ≤ segment.start }
     requires ended { segment.end ≤ clip.at + clip.len }
-    ensures ok { OnOk result ((f c : ℕ) → all_give f c parts.new.items ≡ all_give f c parts.old.items
+    ensures ok { OnOk result ((f c : ℕ) → all_give f c parts.new.items
+        ≡ all_give f c parts.old.items
         +ℤ (if is_in segment f then contribution clip gain (f - clip.at) (heard (source_of catalogue.now clip.source) clip f c) else pos 0)) }
-    ensures pushed { OnOk result ((p : PartOf) × (parts.new.items ≡ parts.old.items ++ p ∷ []) × (p.start ≡ segment.start) × (p.end ≡ segment.end)) }
+    ensures pushed { OnOk result ((p : PartOf) × (parts.new.items ≡ parts.old.items ++ p ∷ [])
+        × (p.start ≡ segment.start) × (p.end ≡ segment.end)) }
 {
     let Some(wave) = catalogue.find(&clip.source) else {
         unreachable!()
@@ -84,8 +90,10 @@ fn lane_of<'c, 'a, A: Allocator + Clone>(
     catalogue: &'c Catalogue<'a, A>,
     track: &TrackView<A>,
 ) -> Result<Lane<'c, 'a, A>, AllocError>
-    requires there { (i : ℕ) → i < length track.now.clips → (clip_at track.now.clips i).mute ≡ false → is_missing catalogue.now (clip_at track.now.clips i).source ≡ false }
-    ensures ok { IfOk result (λ lane. (f c : ℕ) → all_give f c lane ≡ clip_sample catalogue.now track.now.gain f c (sounding track.now.clips f)) }
+    requires there { (i : ℕ) → i < length track.now.clips → (clip_at track.now.clips i).mute ≡ false
+        → is_missing catalogue.now (clip_at track.now.clips i).source ≡ false }
+    ensures ok { IfOk result (λ lane. (f c : ℕ) → all_give f c lane
+        ≡ clip_sample catalogue.now track.now.gain f c (sounding track.now.clips f)) }
 {
     let clips = track.clips.items();
     let spans = spans_of(alloc.clone()?, clips)?;
@@ -108,8 +116,11 @@ pub(crate) fn add_audible<'c, 'a, A: Allocator + Clone>(
     track: &TrackView<A>,
     lanes: &mut Vec<Lane<'c, 'a, A>, A>,
 ) -> Result<(), AllocError>
-    requires there { track.now.mute ≡ false → (i : ℕ) → i < length track.now.clips → (clip_at track.now.clips i).mute ≡ false → is_missing catalogue.now (clip_at track.now.clips i).source ≡ false }
-    ensures ok { OnOk result ((f c : ℕ) → lanes_give f c lanes.new.items ≡ lanes_give f c lanes.old.items +ℤ track_sample catalogue.now f c track.now) }
+    requires there { track.now.mute ≡ false → (i : ℕ) → i < length track.now.clips
+        → (clip_at track.now.clips i).mute ≡ false → is_missing catalogue.now
+        (clip_at track.now.clips i).source ≡ false }
+    ensures ok { OnOk result ((f c : ℕ) → lanes_give f c lanes.new.items
+        ≡ lanes_give f c lanes.old.items +ℤ track_sample catalogue.now f c track.now) }
 {
     if track.mute {
         return Ok(());

@@ -3,7 +3,9 @@ use Rattle.mt_op.specs.OpValue.{Body}
 use Rattle.mt_op.specs.OpValue as act
 use Rattle.mt_replica.specs.declared.change.Change.{Change}
 use Rattle.mt_replica.specs.declared.change.Change.TheVariants as change
-use Rattle.mt_replica.specs.Edit.{Edit, AddTrack, MoveTrack, AddClip, MoveClip, TrimClip, SetGain, SetMute, Remove, Restore, AddMarker, MoveMarker, Retitle, SetFade, SetMarkerLength}
+use Rattle.mt_replica.specs.Edit.{Edit, AddTrack, MoveTrack, AddClip, MoveClip, TrimClip, SetGain}
+use Rattle.mt_replica.specs.Edit.{SetMute, Remove, Restore, AddMarker, MoveMarker, Retitle, SetFade}
+use Rattle.mt_replica.specs.Edit.{SetMarkerLength}
 
 abbrev pub edit_of : {A : Type 0} → Change A → Edit
 edit_of (change.AddTrack after title) = AddTrack after title

@@ -1,5 +1,6 @@
 -- What an editor holds, and what its calls answer and leave.
-use Rattle.std.specs.Prelude.{◌≡◌, ◌≢◌, ℕ, Bool, true, false, not, List, filter, Option, Some, None, option_map, Result, Ok, Err}
+use Rattle.std.specs.Prelude.{◌≡◌, ◌≢◌, ℕ, Bool, true, false, not, List, filter, Option, Some, None}
+use Rattle.std.specs.Prelude.{option_map, Result, Ok, Err}
 use Rattle.std.specs.List.{sum_by}
 use Rattle.std.specs.FinMap as map
 use Rattle.mt_stamp.specs.declared.name.Replica.{Replica}
@@ -21,7 +22,8 @@ use Rattle.mt_replica.specs.declared.fault.EditorFault.TheVariants.{Memory, Fail
 use Rattle.mt_replica.specs.declared.taken.Taken.{Taken}
 use Rattle.mt_replica.specs.declared.taken.Taken.TheVariants.{Already, Held, Applied}
 
--- its name, its log unless an allocation failed: then it has failed, and how many cells it has joined since it was made
+-- its name, its log unless an allocation failed: then it has failed, and how many cells it has
+-- joined since it was made
 pub record Editor : Type 0 where
   pub name : Replica
   pub log : Option LogMap
@@ -31,9 +33,11 @@ pub record Editor : Type 0 where
 abbrev pub with_op : LogMap → Op → LogMap
 with_op log op = map.insert log (op_dot op) op
 
--- the operations that become ready by one more: those that are ready with it and were not without it
+-- the operations that become ready by one more: those that are ready with it and were not without
+-- it
 abbrev pub newly_ready_ops : LogMap → Op → List Op
-newly_ready_ops log op = filter (λ (o : Op). not (is_listed (stamps_of (ready_ops (operations log))) o.stamp)) (ready_ops (operations (with_op log op)))
+newly_ready_ops log op = filter (λ (o : Op). not (is_listed (stamps_of (ready_ops (operations log)))
+    o.stamp)) (ready_ops (operations (with_op log op)))
 
 -- how many cells these join
 abbrev pub joins_by : Option LogMap → Op → ℕ
@@ -41,7 +45,8 @@ joins_by None op = 0
 joins_by (Some log) op = sum_by joins_of (newly_ready_ops log op)
 
 abbrev pub kept_with : Editor → Op → Editor
-kept_with kept op = record { name = kept.name; log = option_map (λ log. with_op log op) kept.log; joins = raised kept.joins (joins_by kept.log op) }
+kept_with kept op = record { name = kept.name; log = option_map (λ log. with_op log op) kept.log;
+    joins = raised kept.joins (joins_by kept.log op) }
 
 abbrev pub failed : Editor → Editor
 failed kept = record { name = kept.name; log = None; joins = kept.joins }
@@ -91,8 +96,10 @@ newly_ready_stamps log op = sort_by stamp_cmp (stamps_of (newly_ready_ops log op
 abbrev pub TakeOf : {A : Type 0} → LogMap → Op → Result (Taken A) EditorFault → Type 0
 TakeOf log op (Ok Already) = map.get log (op_dot op) ≡ Some op
 TakeOf log op (Ok Held) = (map.get log (op_dot op) ≡ None) × (is_ready_in log op ≡ false)
-TakeOf log op (Ok (Applied stamps)) = (map.get log (op_dot op) ≡ None) × ((is_ready_in log op ≡ true) × (stamps ≡ newly_ready_stamps log op))
-TakeOf log op (Err (Conflict dot)) = (dot ≡ op_dot op) × ((other : Op) × ((map.get log dot ≡ Some other) × (other ≢ op)))
+TakeOf log op (Ok (Applied stamps)) = (map.get log (op_dot op) ≡ None)
+    × ((is_ready_in log op ≡ true) × (stamps ≡ newly_ready_stamps log op))
+TakeOf log op (Err (Conflict dot)) = (dot ≡ op_dot op)
+    × ((other : Op) × ((map.get log dot ≡ Some other) × (other ≢ op)))
 TakeOf log op (Err Memory) = map.get log (op_dot op) ≡ None
 TakeOf log op (Err _) = ⊥
 

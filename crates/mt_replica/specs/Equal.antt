@@ -1,4 +1,5 @@
--- By what drafts and editors are compared: the name, and the texts of the operations in the log, where there is one.
+-- By what drafts and editors are compared: the name, and the texts of the operations in the log,
+-- where there is one.
 use Rattle.std.specs.Prelude.{ℕ, List, [], ◌∷◌, Option, Some, None}
 use Rattle.mt_opcodec.specs.LogText.{op_texts}
 use Rattle.mt_opcodec.specs.LogValue.{LogMap, operations}

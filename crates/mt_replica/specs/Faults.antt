@@ -1,7 +1,10 @@
 -- The number of each refusal.
 use Rattle.std.specs.Prelude.{ℕ}
 use Rattle.mt_replica.specs.declared.fault.EditorFault.{EditorFault}
-use Rattle.mt_replica.specs.declared.fault.EditorFault.TheVariants.{Memory, Failed, Conflict, ZeroLength, NoSuchItem, Absent, TooManyTags, ClockFull, SeqFull, FadeTooLong}
+use Rattle.mt_replica.specs.declared.fault.EditorFault.TheVariants.{Memory, Failed, Conflict}
+use Rattle.mt_replica.specs.declared.fault.EditorFault.TheVariants.{ZeroLength, NoSuchItem, Absent}
+use Rattle.mt_replica.specs.declared.fault.EditorFault.TheVariants.{TooManyTags, ClockFull, SeqFull}
+use Rattle.mt_replica.specs.declared.fault.EditorFault.TheVariants.{FadeTooLong}
 
 abbrev pub number_of : EditorFault → ℕ
 number_of Memory = 0

@@ -1,4 +1,5 @@
--- Working definitions: the operations that an editor offers to what holds them back, and what it notes of those that become ready.
+-- Working definitions: the operations that an editor offers to what holds them back, and what it
+-- notes of those that become ready.
 use Rattle.std.specs.Prelude.{◌≡◌, ℕ, ◌+◌, ◌≤◌, Bool, true, false, cond, List, [], ◌∷◌}
 use Rattle.std.specs.List.{sum_by}
 use Rattle.mt_stamp.specs.StampOrder.{Stamp, stamp_eq}
@@ -48,7 +49,8 @@ HaveOwnStamps ops = (stamp : Stamp) → stamp_count stamp ops ≤ 1
 -- These operations were offered, and nothing has failed; the others are left.
 pub record AreOffered (waiting : HoldBack Op) (left ops : List Op) : Type 0 where
   pub whole : waiting.failed ≡ false
-  pub offered : (f : Op → ℕ) → sum_by f (all_offered waiting.contents) + sum_by f left ≡ sum_by f ops
+  pub offered : (f : Op → ℕ) → sum_by f (all_offered waiting.contents) + sum_by f left
+      ≡ sum_by f ops
 
 -- ---- what is noted of them
 

@@ -11,7 +11,8 @@ tags_joined (Remove item tags) = length tags
 tags_joined (Restore item) = 1
 tags_joined act = if adds_item act then 1 else 0
 
--- one for each field that an operation writes, each tag that it adds and each tag that it lists (profile)
+-- one for each field that an operation writes, each tag that it adds and each tag that it lists
+-- (profile)
 abbrev pub joins_of : Op → ℕ
 joins_of o = length (writes o.stamp o.act) + tags_joined o.act
 

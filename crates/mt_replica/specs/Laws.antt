@@ -13,19 +13,25 @@ use Rattle.mt_replica.specs.Edit.{Edit}
 use Rattle.mt_replica.specs.Made.{made}
 use Rattle.mt_replica.specs.EditorValue.{with_op, is_ready_in}
 
--- An operation is a replica's next one of a log: it is the replica's, its number passes every number of the replica in the log, and its
--- clock every clock, so the log has nothing under its dot. It names older ones, and ready operations of the log meet its needs. With it
--- the log has it ready and nothing else more: whatever is counted of the ready ones, it is what was counted and its own.
+-- An operation is a replica's next one of a log: it is the replica's, its number passes every
+-- number of the replica in the log, and its clock every clock, so the log has nothing under its
+-- dot. It names older ones, and ready operations of the log meet its needs. With it the log has it
+-- ready and nothing else more: whatever is counted of the ready ones, it is what was counted and
+-- its own.
 pub record IsNext (log : LogMap) (name : Replica) (o : Op) : Type 0 where
   pub own : o.stamp.replica ≡ name
-  pub next : AllByRecursion (λ x. x.stamp.replica ≡ name → x.stamp.seq < o.stamp.seq) (operations log)
+  pub next : AllByRecursion (λ x. x.stamp.replica ≡ name → x.stamp.seq < o.stamp.seq)
+      (operations log)
   pub older : IsTrue (names_are_older o)
   pub newest : AllByRecursion (λ x. clock_of x < clock_of o) (operations log)
   pub absent : map.get log (op_dot o) ≡ None
-  pub met : AllByRecursion (λ need. list_any (meets need) (ready_ops (operations log)) ≡ true) (needs o)
+  pub met : AllByRecursion (λ need. list_any (meets need) (ready_ops (operations log)) ≡ true)
+      (needs o)
   pub ready : is_ready_in log o ≡ true
-  pub only : (f : Op → ℕ) → sum_by f (ready_ops (operations (with_op log o))) ≡ f o + sum_by f (ready_ops (operations log))
+  pub only : (f : Op → ℕ) → sum_by f (ready_ops (operations (with_op log o))) ≡ f o
+      + sum_by f (ready_ops (operations log))
 
 -- What an edit by a replica makes of a log is the replica's next operation of it.
 abbrev pub MadeIsNext : Type 0
-MadeIsNext = (log : LogMap) (name : Replica) (edit : Edit) (o : Op) → IsSet log → made (operations log) name edit ≡ Ok o → IsNext log name o
+MadeIsNext = (log : LogMap) (name : Replica) (edit : Edit) (o : Op) → IsSet log
+    → made (operations log) name edit ≡ Ok o → IsNext log name o

@@ -1,5 +1,7 @@
 -- What an edit makes of a set of operations.
-use Rattle.std.specs.Prelude.{ℕ, suc, Bool, true, false, not, ◌==◌, ◌||◌, List, [], ◌∷◌, map, filter, length, Option, Some, None, option_map, unwrap_or, Result, Ok, Err, nat_le, max}
+use Rattle.std.specs.Prelude.{ℕ, suc, Bool, true, false, not, ◌==◌, ◌||◌, List, [], ◌∷◌, map}
+use Rattle.std.specs.Prelude.{filter, length, Option, Some, None, option_map, unwrap_or, Result, Ok}
+use Rattle.std.specs.Prelude.{Err, nat_le, max}
 use Rattle.std.specs.List.{list_any}
 use Rattle.mt_stamp.specs.declared.name.Replica.{Replica}
 use Rattle.mt_stamp.specs.StampOrder.{Stamp, greatest, stamp_cmp}
@@ -15,9 +17,13 @@ use Rattle.mt_op.specs.Tags.{greatest_tag_count}
 use Rattle.mt_op.specs.Valid.{length_is_good, fades_are_good}
 use Rattle.mt_sessionview.specs.Session.{ready_ops}
 use Rattle.mt_stamp.specs.Sorting.{sort_by}
-use Rattle.mt_replica.specs.Edit.{Edit, AddTrack, MoveTrack, AddClip, MoveClip, TrimClip, SetGain, SetMute, Remove, Restore, AddMarker, MoveMarker, Retitle, SetFade, SetMarkerLength}
+use Rattle.mt_replica.specs.Edit.{Edit, AddTrack, MoveTrack, AddClip, MoveClip, TrimClip, SetGain}
+use Rattle.mt_replica.specs.Edit.{SetMute, Remove, Restore, AddMarker, MoveMarker, Retitle, SetFade}
+use Rattle.mt_replica.specs.Edit.{SetMarkerLength}
 use Rattle.mt_replica.specs.declared.fault.EditorFault.{EditorFault}
-use Rattle.mt_replica.specs.declared.fault.EditorFault.TheVariants.{ZeroLength, FadeTooLong, NoSuchItem, Absent, TooManyTags, ClockFull, SeqFull}
+use Rattle.mt_replica.specs.declared.fault.EditorFault.TheVariants.{ZeroLength, FadeTooLong}
+use Rattle.mt_replica.specs.declared.fault.EditorFault.TheVariants.{NoSuchItem, Absent, TooManyTags}
+use Rattle.mt_replica.specs.declared.fault.EditorFault.TheVariants.{ClockFull, SeqFull}
 
 -- ---- its stamp
 
@@ -38,24 +44,27 @@ is_by name o = o.stamp.replica.0 == name.0
 abbrev pub greatest_seq : Replica → List Op → ℕ
 greatest_seq name ops = greatest_of (map (λ (o : Op). o.stamp.seq) (filter (is_by name) ops))
 
--- The clock is greater than every clock of the set (Lamport: Communications of the ACM 21, 1978), and the number the next
--- one of the replica.
+-- The clock is greater than every clock of the set (Lamport: Communications of the ACM 21, 1978),
+-- and the number the next one of the replica.
 abbrev pub made_stamp : List Op → Replica → Stamp
-made_stamp ops name = record { clock = suc (greatest_clock ops); replica = name; seq = suc (greatest_seq name ops) }
+made_stamp ops name = record { clock = suc (greatest_clock ops); replica = name; seq = suc
+    (greatest_seq name ops) }
 
 -- ---- what it does
 
 module _ (ready : List Op) where
-  -- The current place of a track: the last one that it was put at (the place of its track in a session).
+  -- The current place of a track: the last one that it was put at (the place of its track in a
+  -- session).
   abbrev pub current_place : Stamp → Stamp
-  current_place track = unwrap_or (option_map (λ (w : Written (Option Stamp)). w.writer) (last_write track_place_written track ready)) track
+  current_place track = unwrap_or (option_map (λ (w : Written (Option Stamp)). w.writer)
+      (last_write track_place_written track ready)) track
 
   -- the live tags of an item, rising
   abbrev pub rising_tags : Stamp → List Stamp
   rising_tags item = sort_by stamp_cmp (live_tags item ready)
 
-  -- The act that an edit makes where these operations are ready: a Remove lists all live tags, and a track is put after
-  -- another one's current place (profile).
+  -- The act that an edit makes where these operations are ready: a Remove lists all live tags, and
+  -- a track is put after another one's current place (profile).
   abbrev pub made_act : Edit → Body
   made_act (AddTrack after title) = act.AddTrack (option_map current_place after) title
   made_act (MoveTrack track after) = act.MoveTrack track (option_map current_place after)
@@ -126,21 +135,26 @@ or_else (Some fault) second = Some fault
 
 -- the first refusal of the numbers of an edit
 abbrev pub numbers_refused : Edit → Option EditorFault
-numbers_refused edit = or_else (unless (plays edit) ZeroLength) (unless (fades_fit edit) FadeTooLong)
+numbers_refused edit = or_else (unless (plays edit) ZeroLength)
+    (unless (fades_fit edit) FadeTooLong)
 
--- A named item has to be added by one of the ready operations in its role, and to be present where the edit asks that.
+-- A named item has to be added by one of the ready operations in its role, and to be present where
+-- the edit asks that.
 abbrev pub name_refused : List Op → Bool → Need → Option EditorFault
 name_refused ready present need =
-    or_else (unless (list_any (meets need) ready) (NoSuchItem need.stamp)) (unless (not present || is_present ready need.stamp) (Absent need.stamp))
+    or_else (unless (list_any (meets need) ready) (NoSuchItem need.stamp))
+        (unless (not present || is_present ready need.stamp) (Absent need.stamp))
 
 -- the first refusal of the items that an edit names
 abbrev pub names_refused : List Op → Bool → List Need → Option EditorFault
 names_refused ready present [] = None
-names_refused ready present (need ∷ needs) = or_else (name_refused ready present need) (names_refused ready present needs)
+names_refused ready present (need ∷ needs) = or_else (name_refused ready present need)
+    (names_refused ready present needs)
 
 -- whether there is room for another clock and another number
 abbrev pub stamp_refused : List Op → Replica → Option EditorFault
-stamp_refused ops name = or_else (unless (not (nat_le greatest (greatest_clock ops))) ClockFull) (unless (not (nat_le greatest (greatest_seq name ops))) SeqFull)
+stamp_refused ops name = or_else (unless (not (nat_le greatest (greatest_clock ops))) ClockFull)
+    (unless (not (nat_le greatest (greatest_seq name ops))) SeqFull)
 
 -- The first refusal of an edit of a set, in this order.
 abbrev pub refused : List Op → Replica → Edit → Option EditorFault

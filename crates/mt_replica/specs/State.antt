@@ -1,5 +1,6 @@
 -- Working definitions: what an editor keeps beside its log.
-use Rattle.std.specs.Prelude.{◌≡◌, ◌≢◌, ℕ, cond, Bool, true, false, List, length, nat_le, Option, Some, None, Ok}
+use Rattle.std.specs.Prelude.{◌≡◌, ◌≢◌, ℕ, cond, Bool, true, false, List, length, nat_le, Option}
+use Rattle.std.specs.Prelude.{Some, None, Ok}
 use Rattle.std.specs.List.{sum_by}
 use Rattle.std.specs.FinMap as map
 use Rattle.mt_op.specs.Dots.{op_dot}
@@ -12,7 +13,8 @@ use Rattle.mt_sessionview.specs.Session.{ready_ops, held_ops}
 use Rattle.mt_replica.specs.Edit.{Edit}
 use Rattle.mt_replica.specs.Holding.{all_offered}
 use Rattle.mt_replica.specs.EditorValue.{Editor}
-use Rattle.mt_replica.specs.Made.{is_by, greatest_clock, greatest_seq, numbers_refused, names_of, names_present, names_refused, tags_fit, unless, or_else, made}
+use Rattle.mt_replica.specs.Made.{is_by, greatest_clock, greatest_seq, numbers_refused, names_of}
+use Rattle.mt_replica.specs.Made.{names_present, names_refused, tags_fit, unless, or_else, made}
 use Rattle.mt_replica.specs.declared.fault.EditorFault.{EditorFault}
 use Rattle.mt_replica.specs.declared.fault.EditorFault.TheVariants.{TooManyTags}
 

@@ -6,7 +6,8 @@ use Rattle.mt_sessionview.specs.SessionValue.{Session}
 use Rattle.session_update.specs.Before.{ArePlacesOf}
 use Rattle.session_update.specs.Updating.{session_in}
 
--- the operations noted, the last one first, and the number held that their session says, where it is kept
+-- the operations noted, the last one first, and the number held that their session says, where it
+-- is kept
 pub record Viewed : Type 0 where
   pub ops : List Op
   pub held : Option ℕ

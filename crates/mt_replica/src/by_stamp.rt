@@ -19,8 +19,8 @@ use mt_sessionview::sorted_ops;
 use session_state::{ItemStates, items_of_ready};
 use std::alloc::{AllocError, Allocator};
 
-// Offers an operation of a greater stamp than those that wait, and notes it where its needs are met by what was released, which is
-// what was noted.
+// Offers an operation of a greater stamp than those that wait, and notes it where its needs are met
+// by what was released, which is what was noted.
 fn take_next<A: Allocator + Clone>(
     waiting: &mut HoldBack<Op<A>, A>,
     items: ItemStates<A>,
@@ -35,7 +35,8 @@ fn take_next<A: Allocator + Clone>(
     ensures same { IfOk result (λ after. (f : Op → ℕ)
         → sum_by f after ≡ sum_by f waiting.new.contents.released) }
 {
-    // for the proof: that what was released is what is ready, and that the operation names older ones
+    // for the proof: that what was released is what is ready, and that the operation names older
+    // ones
     let (_released, _stamp) = (waiting.released(), op.stamp());
     if items.are_needs_met(op) {
         let items = items.apply(op)?;
@@ -54,7 +55,8 @@ fn all_taken<A: Allocator + Clone>(
     requires rising { RisesStrictly op_cmp (map (λ o. o.now) ops.now) }
     requires own { HaveOwnStamps (map (λ o. o.now) ops.now) }
     ensures offered { IfOk result (λ both. AreOffered both.0 [] (map (λ o. o.now) ops.now)) }
-    ensures applied { IfOk result (λ both. (f : Op → ℕ) → sum_by f both.1 ≡ sum_by f both.0.contents.released) }
+    ensures applied { IfOk result (λ both. (f : Op → ℕ) → sum_by f both.1
+        ≡ sum_by f both.0.contents.released) }
 {
     let mut waiting = HoldBack::new(alloc.clone()?);
     let mut items = ItemStates::with_capacity_for(alloc.clone()?, ops)?;
@@ -64,8 +66,8 @@ fn all_taken<A: Allocator + Clone>(
     Ok((waiting, items))
 }
 
-/// The items that the ready operations of a log leave: each is noted where it is ready, by rising stamp. n operations cost n log n.
-/// `AllocError` where an allocation failed.
+/// The items that the ready operations of a log leave: each is noted where it is ready, by rising
+/// stamp. n operations cost n log n. `AllocError` where an allocation failed.
 pub(crate) fn items_beside<A: Allocator + Clone>(
     alloc: &A,
     log: &Log<A>,
@@ -79,8 +81,9 @@ pub(crate) fn items_beside<A: Allocator + Clone>(
     Ok(items_of_ready(alloc.clone()?, &sorted)?)
 }
 
-/// What holds the operations of a log back, and the items that the ready ones leave: each operation is offered, and noted where it
-/// is ready, by rising stamp. n operations cost n log n. `AllocError` where an allocation failed.
+/// What holds the operations of a log back, and the items that the ready ones leave: each operation
+/// is offered, and noted where it is ready, by rising stamp. n operations cost n log n.
+/// `AllocError` where an allocation failed.
 pub(crate) fn beside_log<A: Allocator + Clone>(
     alloc: &A,
     log: &Log<A>,
@@ -98,7 +101,8 @@ pub(crate) fn beside_log<A: Allocator + Clone>(
     Ok((waiting, items))
 }
 
-/// What holds the operations of a log back, which is made of the log where it is not there yet. `AllocError` where an allocation failed.
+/// What holds the operations of a log back, which is made of the log where it is not there yet.
+/// `AllocError` where an allocation failed.
 pub(crate) fn held_back<A: Allocator + Clone>(
     alloc: &A,
     log: &Log<A>,

@@ -4,9 +4,9 @@ use mt_op::{Digest, Gain, Title};
 use mt_stamp::Stamp;
 use std::alloc::{Allocator, Global};
 
-/// What an editor is asked for: what an operation's body says, but a Remove lists no tags, since all live ones are meant, and
-/// `after` names a track, since its current place is meant. Positions and offsets are in frames, counted from 0, and each is
-/// any `u32`.
+/// What an editor is asked for: what an operation's body says, but a Remove lists no tags, since
+/// all live ones are meant, and `after` names a track, since its current place is meant. Positions
+/// and offsets are in frames, counted from 0, and each is any `u32`.
 #[derive(Drop)]
 pub enum Change<A: Allocator = Global> {
     /// Adds a track after another, or at the head. Its gain is 1/1, and it is not muted.
@@ -19,8 +19,9 @@ pub enum Change<A: Allocator = Global> {
         track: Stamp,
         after: Option<Stamp>,
     },
-    /// Adds a clip to a track, from frame `at` of the session on: `len` frames, at least 1, of the recording with the digest
-    /// `source`, from its frame `offset` on. The clip's gain is 1/1, it is not muted, and it has no fades.
+    /// Adds a clip to a track, from frame `at` of the session on: `len` frames, at least 1, of the
+    /// recording with the digest `source`, from its frame `offset` on. The clip's gain is 1/1, it
+    /// is not muted, and it has no fades.
     AddClip {
         source: Digest,
         track: Stamp,
@@ -73,7 +74,8 @@ pub enum Change<A: Allocator = Global> {
         item: Stamp,
         title: Title<A>,
     },
-    /// Lets a clip fade in over its first `fade_in` frames and out over its last `fade_out`, each at most 1,048,576; 0 is no fade.
+    /// Lets a clip fade in over its first `fade_in` frames and out over its last `fade_out`, each
+    /// at most 1,048,576; 0 is no fade.
     SetFade {
         clip: Stamp,
         fade_in: u32,

@@ -1,6 +1,7 @@
 //! The log that is edited: an editor, which has its session, and a draft, which has none.
 
-ghost use Rattle.std.specs.Prelude.{◌≡◌, ◌≢◌, ◌↔◌, IsErrOf, IfOk, IfErr, OnOk, OnErr, Ok, None, Some, Bool, true, false};
+ghost use Rattle.std.specs.Prelude.{◌≡◌, ◌≢◌, ◌↔◌, IsErrOf, IfOk, IfErr, OnOk, OnErr, Ok, None};
+ghost use Rattle.std.specs.Prelude.{Some, Bool, true, false};
 ghost use Rattle.std.specs.Option.{option_copied};
 ghost use Rattle.std.specs.Prelude.{nat_eq};
 ghost use Rattle.std.specs.Cmp.Lexicographic.{pointwise};
@@ -45,9 +46,10 @@ impl Sessions for WithoutSession {
     const SHOWN: bool = false;
 }
 
-/// A log that is edited under a name, with its session or without: an `Editor` or a `Draft`. They are equal where their names and logs are,
-/// and with these their sessions. Once an allocation failed in `take` or `edit` it has failed: it has neither log nor session any more, and
-/// every call that can be refused answers `Failed` (20).
+/// A log that is edited under a name, with its session or without: an `Editor` or a `Draft`. They
+/// are equal where their names and logs are, and with these their sessions. Once an allocation
+/// failed in `take` or `edit` it has failed: it has neither log nor session any more, and every
+/// call that can be refused answers `Failed` (20).
 #[derive(Drop)]
 pub struct EditorCore<A: Allocator, S: Sessions> {
     alloc: A,
@@ -60,8 +62,9 @@ pub struct EditorCore<A: Allocator, S: Sessions> {
 /// An editor: a name, a log and the session of the log's operations.
 pub type Editor<A = Global> = EditorCore<A, WithSession>;
 
-/// A log that is edited under a name, without its session: for many edits one after another between which nobody looks at the
-/// session. Each call answers as an editor's does and leaves the same log.
+/// A log that is edited under a name, without its session: for many edits one after another between
+/// which nobody looks at the session. Each call answers as an editor's does and leaves the same
+/// log.
 pub type Draft<A = Global> = EditorCore<A, WithoutSession>;
 
 impl<A: Allocator, S: Sessions> Model for EditorCore<A, S> {
@@ -74,13 +77,16 @@ impl<A: Allocator, S: Sessions> Model for EditorCore<A, S> {
 
     ghost coded = { kept_code };
 
-    ghost view = { λ d. record { name = d.name; log = option_map (λ (s : StateValue). s.named.log) d.state; joins = d.joins } };
+    ghost view = { λ d. record { name = d.name; log = option_map (λ (s : StateValue). s.named.log)
+        d.state; joins = d.joins } };
 
-    ghost invariant = { λ d. IfSome d.state (λ (s : StateValue). (s.named.name ≡ d.name) × (s.shown ≡ S.SHOWN)) };
+    ghost invariant = { λ d. IfSome d.state (λ (s : StateValue). (s.named.name ≡ d.name)
+        × (s.shown ≡ S.SHOWN)) };
 }
 
 impl<A: Allocator, S: Sessions> EditorCore<A, S> {
-    /// Its log: all operations that it has taken, those that are held too; `None` where it has failed.
+    /// Its log: all operations that it has taken, those that are held too; `None` where it has
+    /// failed.
     pub fn log(&self) -> Option<&Log<A>>
         ensures { option_copied result ≡ self.now.log }
     {
@@ -96,7 +102,8 @@ impl<A: Allocator + Clone> Draft<A> {
 
     /// A draft that has taken a log's operations. Refused only as `Memory` (0).
     pub fn new(alloc: A, name: Replica, log: Log<A>) -> Result<Self, EditorFault>
-        ensures ok { IfOk result (λ draft. draft ≡ record { name = name; log = Some log; joins = 0 }) }
+        ensures ok { IfOk result (λ draft. draft ≡ record { name = name; log = Some log; joins = 0
+            }) }
         ensures err { IfErr result (λ fault. fault ≡ EditorFault.Memory) }
     {
         Ok(EditorCore::of_log(alloc, name, log)?)
@@ -108,7 +115,8 @@ impl<A: Allocator + Clone> Editor<A> {
 
     /// An editor of this name that has taken a log's operations. Refused only as `Memory` (0).
     pub fn from_log(alloc: A, name: Replica, log: Log<A>) -> Result<Self, EditorFault>
-        ensures ok { IfOk result (λ editor. editor ≡ record { name = name; log = Some log; joins = 0 }) }
+        ensures ok { IfOk result (λ editor. editor ≡ record
+            { name = name; log = Some log; joins = 0 }) }
         ensures err { IfErr result (λ fault. fault ≡ EditorFault.Memory) }
     {
         Ok(EditorCore::of_log(alloc, name, log)?)
@@ -152,12 +160,14 @@ impl<A: Allocator + Clone> Editor<A> {
 }
 
 impl<A: Allocator + Clone, S: Sessions> EditorCore<A, S> {
-    ghost use Rattle.mt_replica.specs.EditorValue.{Editor, kept_with, failed, copied, EditGives, after_edit, TakeGives, after_take};
+    ghost use Rattle.mt_replica.specs.EditorValue.{Editor, kept_with, failed, copied, EditGives};
+    ghost use Rattle.mt_replica.specs.EditorValue.{after_edit, TakeGives, after_take};
     ghost use Rattle.mt_replica.specs.State.{IsMadeOf, IsNewTo};
 
     // A desk that has taken a log's operations. `AllocError` where an allocation failed.
     fn of_log(alloc: A, name: Replica, log: Log<A>) -> Result<Self, AllocError>
-        ensures ok { IfOk result (λ desk. desk ≡ record { name = name; log = Some log; joins = 0 }) }
+        ensures ok { IfOk result (λ desk. desk ≡ record { name = name; log = Some log; joins = 0 })
+            }
     {
         let state = if S::SHOWN {
             State::shown_of(&alloc, name, log)?
@@ -173,11 +183,13 @@ impl<A: Allocator + Clone, S: Sessions> EditorCore<A, S> {
         })
     }
 
-    // A desk of its name with a copy of its log. Refused as `Failed` (20) where it has failed, and as `Memory` (0).
+    // A desk of its name with a copy of its log. Refused as `Failed` (20) where it has failed, and
+    // as `Memory` (0).
     fn copy<T: Sessions>(&self) -> Result<EditorCore<A, T>, EditorFault>
         ensures ok { IfOk result (λ copy. copy ≡ copied self.now) }
         ensures failed { IsErrOf result EditorFault.Failed ↔ (self.now.log ≡ None) }
-        ensures err { IfErr result (λ fault. fault ≢ EditorFault.Failed → fault ≡ EditorFault.Memory) }
+        ensures err { IfErr result (λ fault. fault ≢ EditorFault.Failed → fault
+            ≡ EditorFault.Memory) }
     {
         let Some(state) = &self.state else {
             return Err(EditorFault::Failed);
@@ -197,9 +209,11 @@ impl<A: Allocator + Clone, S: Sessions> EditorCore<A, S> {
         name
     }
 
-    /// How many cells it has joined since `from_log`, `new` or `try_clone` made it: one for each field that an operation writes, each tag that
-    /// it adds and each tag that it lists, of the operations that became ready by a take or an edit. It stands still at the greatest
-    /// `u64`, and where it has failed. A session that is mended is not counted, and no comparison looks at it.
+    /// How many cells it has joined since `from_log`, `new` or `try_clone` made it: one for each
+    /// field that an operation writes, each tag that it adds and each tag that it lists, of the
+    /// operations that became ready by a take or an edit. It stands still at the greatest `u64`,
+    /// and where it has failed. A session that is mended is not counted, and no comparison looks at
+    /// it.
     pub fn joins(&self) -> u64
         ensures { result ≡ self.now.joins }
     {
@@ -219,28 +233,31 @@ impl<A: Allocator + Clone, S: Sessions> EditorCore<A, S> {
         }
     }
 
-    /// A draft of its name with a copy of its log: for many edits between which nobody looks at the session. Refused as `Failed`
-    /// (20) where it has failed, and as `Memory` (0), which leaves it unchanged.
+    /// A draft of its name with a copy of its log: for many edits between which nobody looks at the
+    /// session. Refused as `Failed` (20) where it has failed, and as `Memory` (0), which leaves it
+    /// unchanged.
     pub fn draft(&self) -> Result<Draft<A>, EditorFault>
         ensures ok { IfOk result (λ draft. draft ≡ copied self.now) }
         ensures failed { IsErrOf result EditorFault.Failed ↔ (self.now.log ≡ None) }
-        ensures err { IfErr result (λ fault. fault ≢ EditorFault.Failed → fault ≡ EditorFault.Memory) }
+        ensures err { IfErr result (λ fault. fault ≢ EditorFault.Failed → fault
+            ≡ EditorFault.Memory) }
     {
         self.copy()
     }
 
-    /// An equal one of the same name, which counts its joins from 0. Refused as `Failed` (20) where it has failed, and as `Memory` (0),
-    /// which leaves it unchanged.
+    /// An equal one of the same name, which counts its joins from 0. Refused as `Failed` (20) where
+    /// it has failed, and as `Memory` (0), which leaves it unchanged.
     pub fn try_clone(&self) -> Result<Self, EditorFault>
         ensures ok { IfOk result (λ copy. copy ≡ copied self.now) }
         ensures failed { IsErrOf result EditorFault.Failed ↔ (self.now.log ≡ None) }
-        ensures err { IfErr result (λ fault. fault ≢ EditorFault.Failed → fault ≡ EditorFault.Memory) }
+        ensures err { IfErr result (λ fault. fault ≢ EditorFault.Failed → fault
+            ≡ EditorFault.Memory) }
     {
         self.copy()
     }
 
-    /// Lets it fail: it has neither log nor session any more. For whoever works out a new log for it in steps of their own and is
-    /// refused memory.
+    /// Lets it fail: it has neither log nor session any more. For whoever works out a new log for
+    /// it in steps of their own and is refused memory.
     pub fn fail(&mut self)
         ensures { self.new ≡ failed self.old }
     {
@@ -264,15 +281,18 @@ impl<A: Allocator + Clone, S: Sessions> EditorCore<A, S> {
         }
     }
 
-    /// Makes the operation of a change, takes it, and gives a copy. Its clock is 1 above the greatest in the log, held operations
-    /// included, and its number 1 above the greatest of this replica there. A Remove lists all live tags of its item, and a track
-    /// is put after the current place of the one that is named.
+    /// Makes the operation of a change, takes it, and gives a copy. Its clock is 1 above the
+    /// greatest in the log, held operations included, and its number 1 above the greatest of this
+    /// replica there. A Remove lists all live tags of its item, and a track is put after the
+    /// current place of the one that is named.
     ///
-    /// Refused, in this order: `Failed` (20) where it has failed; `ZeroLength` (6) where a clip would play no frame; `FadeTooLong` (51)
-    /// where it would fade over more than 1,048,576 frames; then for each item that the change names, in the order of its fields,
-    /// `NoSuchItem` (21) where no ready operation of that stamp adds such an item and `Absent` (22) where it is not present, which a
-    /// Restore does not ask; `TooManyTags` (25) where a Remove would list over 65,535; `ClockFull` (23) and `SeqFull` (24) where the
-    /// greatest clock or number is 2^62. All these change nothing. `Memory` (0) where an allocation failed: then it has failed.
+    /// Refused, in this order: `Failed` (20) where it has failed; `ZeroLength` (6) where a clip
+    /// would play no frame; `FadeTooLong` (51) where it would fade over more than 1,048,576 frames;
+    /// then for each item that the change names, in the order of its fields, `NoSuchItem` (21)
+    /// where no ready operation of that stamp adds such an item and `Absent` (22) where it is not
+    /// present, which a Restore does not ask; `TooManyTags` (25) where a Remove would list over
+    /// 65,535; `ClockFull` (23) and `SeqFull` (24) where the greatest clock or number is 2^62. All
+    /// these change nothing. `Memory` (0) where an allocation failed: then it has failed.
     pub fn edit(&mut self, change: &Change<A>) -> Result<Op<A>, EditorFault>
         ensures gives { EditGives self.old (edit_of change.now) result }
         ensures holds { self.new ≡ after_edit self.old result }
@@ -313,11 +333,13 @@ impl<A: Allocator + Clone, S: Sessions> EditorCore<A, S> {
         }
     }
 
-    /// Takes an operation, of this replica or of another, into the log: `Already` where the same one is there, `Held` where it
-    /// has to wait for others, and `Applied` with the stamps of all that became ready by it, rising.
+    /// Takes an operation, of this replica or of another, into the log: `Already` where the same
+    /// one is there, `Held` where it has to wait for others, and `Applied` with the stamps of all
+    /// that became ready by it, rising.
     ///
-    /// Refused as `Failed` (20) where it has failed, and as `Conflict` (17) with its dot where another operation has that
-    /// dot; both change nothing. `Memory` (0) where an allocation failed: then it has failed.
+    /// Refused as `Failed` (20) where it has failed, and as `Conflict` (17) with its dot where
+    /// another operation has that dot; both change nothing. `Memory` (0) where an allocation
+    /// failed: then it has failed.
     pub fn take(&mut self, op: Op<A>) -> Result<Taken<A>, EditorFault>
         ensures gives { TakeGives self.old.log op result }
         ensures holds { self.new ≡ after_take self.old op result }
@@ -336,7 +358,8 @@ impl<A: Allocator + Clone, S: Sessions> EditorCore<A, S> {
 
 // Whether there is no log in either place, or equal ones.
 fn same_logs<A: Allocator>(a: Option<&Log<A>>, b: Option<&Log<A>>) -> bool
-    ensures { result ≡ pointwise nat_eq (log_word (option_copied a.entry)) (log_word (option_copied b.entry)) }
+    ensures { result ≡ pointwise nat_eq (log_word (option_copied a.entry))
+        (log_word (option_copied b.entry)) }
 {
     match (a, b) {
         (None, None) => true,

@@ -4,7 +4,8 @@ ghost use Rattle.std.specs.Prelude.{◌≡◌, ◌≤◌, drop, length, true, fa
 ghost use Rattle.mt_holdback.specs.HoldBack.{IsHoldBack};
 ghost use Rattle.mt_holdback.specs.Laws.{is_met_by};
 ghost use Rattle.mt_holdback.specs.Ops.{op_rules};
-ghost use Rattle.mt_replica.specs.Holding.{is_offered, newly_released, with_offered, offer_gives, StampsRise};
+ghost use Rattle.mt_replica.specs.Holding.{is_offered, newly_released, with_offered, offer_gives};
+ghost use Rattle.mt_replica.specs.Holding.{StampsRise};
 
 use mt_holdback::{HoldBack, HoldBackFault, Offered};
 use mt_op::Op;

@@ -1,6 +1,7 @@
 //! An editor of a session: a name, a log, and the session of the log's operations.
 //!
-//! An editor takes the operations of others, in whatever order they come, and makes its own from changes:
+//! An editor takes the operations of others, in whatever order they come, and makes its own from
+//! changes:
 //!
 //! ```rust
 //! use mt_op::Title;
@@ -26,12 +27,13 @@
 //! }
 //! ```
 //!
-//! What an edit makes is one definition (`specs/Made.antt`): the first refusal in its order, or one operation whose clock passes every clock of
-//! the log. `Draft` is the same without a session, for many edits between which nobody looks at one. `laws` says what holds of
-//! what is made.
+//! What an edit makes is one definition (`specs/Made.antt`): the first refusal in its order, or one
+//! operation whose clock passes every clock of the log. `Draft` is the same without a session, for
+//! many edits between which nobody looks at one. `laws` says what holds of what is made.
 //!
-//! A take looks at the operation, at those that it makes ready, and at what these name, whatever else is in the log: the editor
-//! keeps its operations in a hold-back, notes what that releases in the state of items, and mends its session at the item of each.
+//! A take looks at the operation, at those that it makes ready, and at what these name, whatever
+//! else is in the log: the editor keeps its operations in a hold-back, notes what that releases in
+//! the state of items, and mends its session at the item of each.
 #![tactic(auto)]
 
 mod body;

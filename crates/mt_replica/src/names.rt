@@ -3,7 +3,8 @@
 ghost use Rattle.std.specs.Prelude.{◌≡◌, List, [], ◌∷◌, true};
 ghost use Rattle.mt_op.specs.Needs.{need_of};
 ghost use Rattle.mt_replica.specs.Changes.{edit_of};
-ghost use Rattle.mt_replica.specs.Made.{or_else, name_refused, names_refused, names_of, named_track, names_present};
+ghost use Rattle.mt_replica.specs.Made.{or_else, name_refused, names_refused, names_of};
+ghost use Rattle.mt_replica.specs.Made.{named_track, names_present};
 
 use crate::change::Change;
 use crate::fault::EditorFault;
@@ -12,8 +13,8 @@ use mt_stamp::Stamp;
 use session_state::ItemStates;
 use std::alloc::Allocator;
 
-// Why this stamp cannot be named in this role: none of the noted operations of this stamp adds such an item, or, where that
-// is asked, the item is not present.
+// Why this stamp cannot be named in this role: none of the noted operations of this stamp adds such
+// an item, or, where that is asked, the item is not present.
 fn name_refused<A: Allocator>(
     items: &ItemStates<A>,
     stamp: Stamp,
@@ -82,7 +83,8 @@ fn clip_move_refused<A: Allocator>(
     clip: Stamp,
     track: Stamp,
 ) -> Option<EditorFault>
-    ensures { result ≡ names_refused items.now true (need_of Role.Clip clip ∷ need_of Role.Track track ∷ []) }
+    ensures { result ≡ names_refused items.now true (need_of Role.Clip clip
+        ∷ need_of Role.Track track ∷ []) }
 {
     first_of(
         item_refused(items, clip, Role::Clip),
@@ -95,7 +97,8 @@ pub(crate) fn names_refused<A: Allocator>(
     items: &ItemStates<A>,
     change: &Change<A>,
 ) -> Option<EditorFault>
-    ensures { result ≡ names_refused items.now (names_present (edit_of change.now)) (names_of (edit_of change.now)) }
+    ensures { result ≡ names_refused items.now (names_present (edit_of change.now))
+        (names_of (edit_of change.now)) }
 {
     match change {
         Change::AddTrack { after, .. } => after_refused(items, *after),

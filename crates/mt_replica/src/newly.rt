@@ -16,7 +16,8 @@ use mt_op::Op;
 use mt_stamp::{List, Stamp};
 use std::alloc::{AllocError, Allocator};
 
-/// What is kept beside a log after an offer, what became of the operation, and how many cells were joined, up to the greatest number.
+/// What is kept beside a log after an offer, what became of the operation, and how many cells were
+/// joined, up to the greatest number.
 #[derive(Drop)]
 pub(crate) struct Outcome<A: Allocator> {
     pub view: EditorState<A>,
@@ -31,7 +32,8 @@ fn all_applied<A: Allocator + Clone>(
     ops: &[Op<A>],
 ) -> Result<EditorState<A>, AllocError>
     requires follow { MayAllFollow view.ops ops.now }
-    ensures ok { IfOk result (λ after. after ≡ record { ops = applied_after view.ops ops.now; held = view.held }) }
+    ensures ok { IfOk result (λ after. after ≡ record { ops = applied_after view.ops ops.now; held =
+        view.held }) }
 {
     let mut view = view;
     for op in ops {
@@ -68,7 +70,8 @@ fn taken_as<A: Allocator + Clone>(
     }
 }
 
-/// Notes what was released from an index on, tells what became of the operation that was offered, and says how many wait.
+/// Notes what was released from an index on, tells what became of the operation that was offered,
+/// and says how many wait.
 pub(crate) fn outcome_of<A: Allocator + Clone>(
     alloc: &A,
     waiting: &HoldBack<Op<A>, A>,

@@ -46,7 +46,8 @@ fn places_of<A: Allocator, B: Allocator>(
     alloc: B,
     ops: &[&Op<A>],
 ) -> Result<Vec<Placed, B>, AllocError>
-    ensures { IfOk result (λ places. tree_of places.items ≡ map tree_place (map (λ o. o.now) ops.now)) }
+    ensures { IfOk result (λ places. tree_of places.items
+        ≡ map tree_place (map (λ o. o.now) ops.now)) }
 {
     let mut places = Vec::with_capacity(alloc, ops.len())?;
     for op in ops {
@@ -55,8 +56,9 @@ fn places_of<A: Allocator, B: Allocator>(
     Ok(places)
 }
 
-/// What ready operations show, from the items that they leave, noted in whatever order, with this many others held: in n log n for n
-/// operations and items. `AllocError` where an allocation failed.
+/// What ready operations show, from the items that they leave, noted in whatever order, with this
+/// many others held: in n log n for n operations and items. `AllocError` where an allocation
+/// failed.
 pub(crate) fn shown_of<A: Allocator + Clone>(
     alloc: &A,
     ready: &[Op<A>],

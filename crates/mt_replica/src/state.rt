@@ -1,6 +1,7 @@
 //! A log, and what an editor keeps beside it.
 
-ghost use Rattle.std.specs.Prelude.{◌≡◌, ◌⊎◌, ℕ, is_some, IfOk, IfErr, IfSome, OnOk, None, Some, Ok, Err, true, false, if◌then◌else◌};
+ghost use Rattle.std.specs.Prelude.{◌≡◌, ◌⊎◌, ℕ, is_some, IfOk, IfErr, IfSome, OnOk, None, Some};
+ghost use Rattle.std.specs.Prelude.{Ok, Err, true, false, if◌then◌else◌};
 ghost use Rattle.std.specs.Option.{option_copied};
 ghost use Rattle.std.specs.FinMap as map;
 ghost use Rattle.std.specs.List.{sum_by};
@@ -38,10 +39,11 @@ use mt_stamp::{Replica, Stamp};
 use std::alloc::{AllocError, Allocator};
 use std::marker::Model;
 
-// A log with the name of its editor, the items that its ready operations leave, where it is kept the session that they show, its greatest
-// clock, and the greatest number of that replica's operations. What holds its operations back until they are ready is there once it has
-// taken an operation or has its session: an edit makes nothing else ready, and needs none. Seen as the name, the log, and whether the
-// session is kept.
+// A log with the name of its editor, the items that its ready operations leave, where it is kept
+// the session that they show, its greatest clock, and the greatest number of that replica's
+// operations. What holds its operations back until they are ready is there once it has taken an
+// operation or has its session: an edit makes nothing else ready, and needs none. Seen as the name,
+// the log, and whether the session is kept.
 #[derive(Drop)]
 pub(crate) struct State<A: Allocator> {
     name: Replica,
@@ -61,13 +63,16 @@ impl<A: Allocator> Model for State<A> {
 
     ghost coded = { stated_code };
 
-    ghost view = { λ s. record { named = record { name = s.name; log = s.log }; shown = is_some s.view.held } };
+    ghost view = { λ s. record { named = record { name = s.name; log = s.log }; shown = is_some
+        s.view.held } };
 
-    ghost invariant = { λ s. IsState (record { name = s.name; log = s.log }) s.view.ops s.clock s.seq
+    ghost invariant = { λ s. IsState (record { name = s.name; log = s.log }) s.view.ops s.clock
+        s.seq
         × (IsHeldOf s.log s.view.held × IfSome s.waiting (HoldsBack s.log)) };
 }
 
-// A state after a take, what became of the operation, and how many cells were joined, up to the greatest number.
+// A state after a take, what became of the operation, and how many cells were joined, up to the
+// greatest number.
 #[derive(Drop)]
 pub(crate) struct Step<A: Allocator> {
     pub state: State<A>,
@@ -95,7 +100,8 @@ impl<A: Allocator> State<A> {
 
     /// The session of its log, where it is kept.
     pub fn session(&self) -> Option<&Session<A>>
-        ensures { option_copied result ≡ (if self.now.shown then Some (session_of (operations self.now.named.log))
+        ensures { option_copied result ≡ (if self.now.shown then Some
+            (session_of (operations self.now.named.log))
             else None) }
     {
         // for the proof: that the log is the one of the state
@@ -112,7 +118,8 @@ impl<A: Allocator + Clone> State<A> {
         waiting: Option<HoldBack<Op<A>, A>>,
         view: EditorState<A>,
     ) -> Self
-        requires applied { (f : Op → ℕ) → sum_by f view.ops ≡ sum_by f (ready_ops (operations log)) }
+        requires applied { (f : Op → ℕ) → sum_by f view.ops
+            ≡ sum_by f (ready_ops (operations log)) }
         requires held { IsHeldOf log view.held }
         requires waits { IfSome waiting (HoldsBack log) }
         ensures { result ≡ record
@@ -154,10 +161,12 @@ impl<A: Allocator + Clone> State<A> {
 
     // The stamp of the next operation.
     fn next_stamp(&self) -> Result<Stamp, EditorFault>
-        ensures { result ≡ or_made (stamp_refused (operations self.now.named.log) self.now.named.name)
+        ensures { result ≡ or_made (stamp_refused (operations self.now.named.log)
+            self.now.named.name)
             (made_stamp (operations self.now.named.log) self.now.named.name) }
     {
-        // for the proof: that clock and number are the greatest ones, and that a replica is a number of 128 bits
+        // for the proof: that clock and number are the greatest ones, and that a replica is a
+        // number of 128 bits
         let (_view, _replica) = (&self.view, self.name.0);
         if self.clock >= Stamp::GREATEST {
             return Err(EditorFault::ClockFull);
@@ -170,9 +179,11 @@ impl<A: Allocator + Clone> State<A> {
 
     // The body that a change makes.
     fn made_body(&self, change: &Change<A>) -> Result<Body<A>, EditorFault>
-        ensures passes { IfOk result (λ body. body_refused (operations self.now.named.log) (edit_of change.now)
+        ensures passes { IfOk result (λ body. body_refused (operations self.now.named.log)
+            (edit_of change.now)
             ≡ None) }
-        ensures ok { IfOk result (λ body. act_of body ≡ made_act (ready_ops (operations self.now.named.log))
+        ensures ok { IfOk result (λ body. act_of body ≡ made_act
+            (ready_ops (operations self.now.named.log))
             (edit_of change.now)) }
         ensures err { IfErr result (λ fault. (fault ≡ EditorFault.Memory)
             ⊎ (body_refused (operations self.now.named.log) (edit_of change.now) ≡ Some fault)) }
@@ -195,12 +206,15 @@ impl<A: Allocator + Clone> State<A> {
         Ok(body)
     }
 
-    /// The operation that a change makes, or its first refusal; `Memory` (0) where an allocation failed.
+    /// The operation that a change makes, or its first refusal; `Memory` (0) where an allocation
+    /// failed.
     pub fn made(&self, change: &Change<A>) -> Result<Op<A>, EditorFault>
-        ensures ok { IfOk result (λ op. made (operations self.now.named.log) self.now.named.name (edit_of change.now)
+        ensures ok { IfOk result (λ op. made (operations self.now.named.log) self.now.named.name
+            (edit_of change.now)
             ≡ Ok op) }
         ensures err { IfErr result (λ fault. (fault ≡ EditorFault.Memory)
-            ⊎ (made (operations self.now.named.log) self.now.named.name (edit_of change.now) ≡ Err fault)) }
+            ⊎ (made (operations self.now.named.log) self.now.named.name (edit_of change.now)
+                ≡ Err fault)) }
     {
         let body = self.made_body(change)?;
         let stamp = self.next_stamp()?;
@@ -209,12 +223,14 @@ impl<A: Allocator + Clone> State<A> {
         Ok(Op::new(stamp, body).unwrap())
     }
 
-    /// The state with an operation that a change made of it, by which nothing else becomes ready. `AllocError` where an allocation failed.
+    /// The state with an operation that a change made of it, by which nothing else becomes ready.
+    /// `AllocError` where an allocation failed.
     pub fn with(self, alloc: &A, op: &Op<A>) -> Result<Self, AllocError>
         requires made { IsMade self.named op.now }
         ensures ok { IfOk result (λ state. state ≡ record
             { named = record { name = self.named.name; log = with_op self.named.log op.now }; shown = self.shown }) }
-        ensures alone { IfOk result (λ state. joins_by (Some self.named.log) op.now ≡ joins_of op.now) }
+        ensures alone { IfOk result (λ state. joins_by (Some self.named.log) op.now
+            ≡ joins_of op.now) }
     {
         let State {
             name,
@@ -237,7 +253,8 @@ impl<A: Allocator + Clone> State<A> {
         })
     }
 
-    /// What the log has under an operation's dot: nothing, the same operation (`true`), or another one (`false`).
+    /// What the log has under an operation's dot: nothing, the same operation (`true`), or another
+    /// one (`false`).
     pub fn found(&self, op: &Op<A>) -> Option<bool>
         ensures { Found self.now.named.log op.now result }
     {
@@ -249,7 +266,8 @@ impl<A: Allocator + Clone> State<A> {
         }
     }
 
-    /// The state with an operation under a new dot, what became of it, and how many cells that joined. `AllocError` where an allocation failed.
+    /// The state with an operation under a new dot, what became of it, and how many cells that
+    /// joined. `AllocError` where an allocation failed.
     pub fn taking(self, alloc: &A, op: Op<A>) -> Result<Step<A>, AllocError>
         requires new { map.get self.named.log (op_dot op) ≡ None }
         ensures state { IfOk result (λ step. step.state
@@ -258,7 +276,8 @@ impl<A: Allocator + Clone> State<A> {
               shown = self.shown;
             }) }
         ensures taken { IfOk result (λ step. TakeOf self.named.log op (Ok step.taken)) }
-        ensures joins { IfOk result (λ step. step.joins ≡ u64_saturate (joins_by (Some self.named.log) op)) }
+        ensures joins { IfOk result (λ step. step.joins ≡ u64_saturate
+            (joins_by (Some self.named.log) op)) }
     {
         let State {
             name,
@@ -303,7 +322,8 @@ fn add_copy<A: Allocator + Clone>(log: &mut Log<A>, op: &Op<A>) -> Result<(), Al
     }
 }
 
-// Adds an operation under a new dot to a log, and offers it to what holds the log's operations back.
+// Adds an operation under a new dot to a log, and offers it to what holds the log's operations
+// back.
 fn taken_in<A: Allocator + Clone>(
     log: &mut Log<A>,
     waiting: &mut HoldBack<Op<A>, A>,
@@ -328,7 +348,8 @@ fn taken_in<A: Allocator + Clone>(
     Ok(offered)
 }
 
-// Adds a copy of an operation under a new dot to a log, and offers one to what holds the log's operations back, where that is there.
+// Adds a copy of an operation under a new dot to a log, and offers one to what holds the log's
+// operations back, where that is there.
 fn made_in<A: Allocator + Clone>(
     log: &mut Log<A>,
     waiting: Option<HoldBack<Op<A>, A>>,

@@ -11,6 +11,7 @@ pub enum Taken<A: Allocator = Global> {
     Already,
     /// It is in the log now and waits: it has no effect until what it needs is there.
     Held,
-    /// It is in the log now and ready: these are the stamps of the operations that became ready by it, rising, its own among them.
+    /// It is in the log now and ready: these are the stamps of the operations that became ready by
+    /// it, rising, its own among them.
     Applied(List<Stamp, A>),
 }

@@ -18,8 +18,9 @@ use session_update::{add_place, located, update};
 use std::alloc::{AllocError, Allocator};
 use std::marker::Model;
 
-/// The items that operations leave which were noted one after another, and beside them, where it is kept, the session that they
-/// show. Seen as the operations, the last one first, and the number held that the session says.
+/// The items that operations leave which were noted one after another, and beside them, where it is
+/// kept, the session that they show. Seen as the operations, the last one first, and the number
+/// held that the session says.
 #[derive(Drop)]
 pub(crate) struct EditorState<A: Allocator> {
     items: ItemStates<A>,
@@ -38,7 +39,8 @@ impl<A: Allocator> Model for EditorState<A> {
 
     ghost view = { λ v. record { ops = v.items; held = option_map (λ s. s.session.held) v.shown } };
 
-    ghost invariant = { λ v. AreApplied v.items × IfSome v.shown (λ s. AreShown v.items s.places s.session) };
+    ghost invariant = { λ v. AreApplied v.items × IfSome v.shown
+        (λ s. AreShown v.items s.places s.session) };
 }
 
 impl<A: Allocator> EditorState<A> {
@@ -73,7 +75,8 @@ impl<A: Allocator> EditorState<A> {
 
     /// Has the session say, where it is kept, that this many operations are held.
     pub(crate) fn set_held(&mut self, held: u64)
-        ensures { self.new ≡ record { ops = self.old.ops; held = option_map (λ h. held) self.old.held } }
+        ensures { self.new ≡ record { ops = self.old.ops; held = option_map (λ h. held)
+            self.old.held } }
     {
         // for the proof: that the session is the one of the items
         let _ = &self.items;
@@ -84,8 +87,8 @@ impl<A: Allocator> EditorState<A> {
 }
 
 impl<A: Allocator + Clone> EditorState<A> {
-    /// The same with the session kept, which is read off the items: of these operations, noted in whatever order, with this many
-    /// others held. `AllocError` where an allocation failed.
+    /// The same with the session kept, which is read off the items: of these operations, noted in
+    /// whatever order, with this many others held. `AllocError` where an allocation failed.
     pub(crate) fn show(self, alloc: &A, ready: &[Op<A>], held: u64) -> Result<Self, AllocError>
         requires same { (f : Op → ℕ) → sum_by f self.ops ≡ sum_by f ready.now }
         requires tree { IsTree (places_in ready.now) }
@@ -99,10 +102,12 @@ impl<A: Allocator + Clone> EditorState<A> {
         })
     }
 
-    /// The same with an operation noted, and the session mended by it where it is kept. `AllocError` where an allocation failed.
+    /// The same with an operation noted, and the session mended by it where it is kept.
+    /// `AllocError` where an allocation failed.
     pub(crate) fn apply(self, alloc: &A, op: &Op<A>) -> Result<Self, AllocError>
         requires follows { CanApply self.ops op.now }
-        ensures ok { IfOk result (λ view. view ≡ record { ops = op.now ∷ self.ops; held = self.held }) }
+        ensures ok { IfOk result (λ view. view ≡ record { ops = op.now
+            ∷ self.ops; held = self.held }) }
     {
         let EditorState { items, shown } = self;
         match shown {

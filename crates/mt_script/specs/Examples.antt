@@ -5,13 +5,15 @@ use Rattle.mt_stamp.specs.StampOrder.{Stamp}
 use Rattle.mt_replica.specs.Edit.{TrimClip, SetGain, SetFade, SetMarkerLength}
 use Rattle.base_text.specs.Cutting.{newline, lines}
 use Rattle.mt_script.specs.Words.{number_below, gain, stamp, item}
-use Rattle.mt_script.specs.Forms.{Items, said, trim_clip, set_gain, set_mute, remove, set_fade, set_marker_length}
+use Rattle.mt_script.specs.Forms.{Items, said, trim_clip, set_gain, set_mute, remove, set_fade}
+use Rattle.mt_script.specs.Forms.{set_marker_length}
 
 pub empty_text : lines [] ≡ []
 empty_text = refl
 
 -- an empty line and a remark count, and the last newline ends the last line
-pub counted_lines : lines (codes "a" ++ newline ∷ newline ∷ codes "# b" ++ newline ∷ []) ≡ codes "a" ∷ [] ∷ codes "# b" ∷ []
+pub counted_lines : lines (codes "a" ++ newline ∷ newline ∷ codes "# b" ++ newline ∷ []) ≡ codes "a"
+    ∷ [] ∷ codes "# b" ∷ []
 counted_lines = refl
 
 pub unended_line : lines (codes "a" ++ newline ∷ codes "b") ≡ codes "a" ∷ codes "b" ∷ []

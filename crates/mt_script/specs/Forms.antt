@@ -1,12 +1,15 @@
--- The fourteen forms of a line that asks for a change (profile). The word that a line begins with, up to its first space, says which
--- form it has; of the fields after it each but the last is a word that one space ends, and the last is all up to the end of the
--- line.
+-- The fourteen forms of a line that asks for a change (profile). The word that a line begins with,
+-- up to its first space, says which form it has; of the fields after it each but the last is a word
+-- that one space ends, and the last is all up to the end of the line.
 use Rattle.std.specs.Prelude.{ℕ, List, [], ◌∷◌, Option, Some, None, if◌then◌else◌, codes}
 use Rattle.std.specs.Str.{bytes_eq, is_utf8}
 use Rattle.mt_stamp.specs.StampOrder.{Stamp}
-use Rattle.mt_replica.specs.Edit.{Edit, AddTrack, MoveTrack, AddClip, MoveClip, TrimClip, SetGain, SetMute, Remove, Restore, AddMarker, MoveMarker, Retitle, SetFade, SetMarkerLength}
+use Rattle.mt_replica.specs.Edit.{Edit, AddTrack, MoveTrack, AddClip, MoveClip, TrimClip, SetGain}
+use Rattle.mt_replica.specs.Edit.{SetMute, Remove, Restore, AddMarker, MoveMarker, Retitle, SetFade}
+use Rattle.mt_replica.specs.Edit.{SetMarkerLength}
 use Rattle.base_text.specs.Cutting.{◌>>=◌, cut}
-use Rattle.mt_script.specs.Words.{space, number, fade_length, gain, item, after, digest, switch, title}
+use Rattle.mt_script.specs.Words.{space, number, fade_length, gain, item, after, digest, switch}
+use Rattle.mt_script.specs.Words.{title}
 
 -- a word that a space ends, read, and what follows the space
 abbrev pub field : {X : Type 0} → (List ℕ → Option X) → List ℕ → Option (X × List ℕ)
@@ -145,7 +148,8 @@ forms =
 -- what the text says by the form whose word this is
 abbrev pub said_by : List Form → List ℕ → Items → List ℕ → Option Edit
 said_by [] word items text = None
-said_by (form ∷ others) word items text = if bytes_eq word form.0 then form.1 items text else said_by others word items text
+said_by (form ∷ others) word items text = if bytes_eq word form.0 then form.1 items text else
+    said_by others word items text
 
 -- what a line says by the form of its first word
 unfoldable pub said : Items → List ℕ → Option Edit
@@ -153,6 +157,7 @@ said items line = do
   parts ← cut space line
   said_by forms parts.0 items parts.1
 
--- What a line asks for. One that is not UTF-8 has none of the forms: their words are ASCII, and a title is UTF-8.
+-- What a line asks for. One that is not UTF-8 has none of the forms: their words are ASCII, and a
+-- title is UTF-8.
 abbrev pub asked : Items → List ℕ → Option Edit
 asked items line = if is_utf8 line then said items line else None

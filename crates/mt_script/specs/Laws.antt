@@ -1,5 +1,6 @@
 -- What holds of the words and lines of scripts.
-use Rattle.std.specs.Prelude.{◌≡◌, ◌≢◌, ◌<◌, ◌≤◌, ◌^◌, ◌↔◌, ◌==◌, ℕ, List, [], ◌∷◌, ◌++◌, length, Some, if◌then◌else◌}
+use Rattle.std.specs.Prelude.{◌≡◌, ◌≢◌, ◌<◌, ◌≤◌, ◌^◌, ◌↔◌, ◌==◌, ℕ, List, [], ◌∷◌, ◌++◌, length}
+use Rattle.std.specs.Prelude.{Some, if◌then◌else◌}
 use Rattle.std.specs.List.{AllByRecursion, flat_map}
 use Rattle.std.specs.Fmt.{decimal}
 use Rattle.mt_stamp.specs.StampOrder.{Stamp, IsStamp}
@@ -9,11 +10,13 @@ use Rattle.mt_script.specs.Words.{number_below, stamp}
 
 -- A number is read from its decimal spelling and from no other text.
 abbrev pub NumbersAreSpelled : Type 0
-NumbersAreSpelled = (limit n : ℕ) (text : List ℕ) → limit ≤ 2 ^ 64 → (number_below limit text ≡ Some n) ↔ ((n < limit) × (text ≡ decimal n))
+NumbersAreSpelled = (limit n : ℕ) (text : List ℕ) → limit ≤ 2 ^ 64
+    → (number_below limit text ≡ Some n) ↔ ((n < limit) × (text ≡ decimal n))
 
 -- A stamp is read from its text and from no other.
 abbrev pub StampsAreSpelled : Type 0
-StampsAreSpelled = (m : Stamp) (text : List ℕ) → (stamp text ≡ Some m) ↔ (IsStamp m × (text ≡ stamp_text m))
+StampsAreSpelled = (m : Stamp) (text : List ℕ) → (stamp text ≡ Some m)
+    ↔ (IsStamp m × (text ≡ stamp_text m))
 
 abbrev pub IsOneLine : List ℕ → Type 0
 IsOneLine line = AllByRecursion (λ b. b ≢ newline) line
@@ -22,7 +25,8 @@ IsOneLine line = AllByRecursion (λ b. b ≢ newline) line
 abbrev pub ended : List (List ℕ) → List ℕ
 ended ls = flat_map (λ line. line ++ newline ∷ []) ls
 
--- Lines that are written, each ended by a newline but perhaps the last, are the lines that are read.
+-- Lines that are written, each ended by a newline but perhaps the last, are the lines that are
+-- read.
 abbrev pub LinesAreRead : Type 0
 LinesAreRead = (ls : List (List ℕ)) (last : List ℕ) → AllByRecursion IsOneLine ls → IsOneLine last
     → lines (ended ls ++ last) ≡ ls ++ (if length last == 0 then [] else last ∷ [])

@@ -10,12 +10,14 @@ use Rattle.mt_script.specs.Lines.{is_silent}
 use Rattle.mt_script.specs.Laws.{IsOneLine}
 use Rattle.mt_script.specs.Forms.{Items, asked}
 
--- The edit of the same fields, a place being named as a track. A Remove that lists its tags is no edit.
+-- The edit of the same fields, a place being named as a track. A Remove that lists its tags is no
+-- edit.
 abbrev pub edit_of_act : Body → Option Edit
 edit_of_act (act.Remove item tags) = None
 edit_of_act a = Some (same_edit a)
 
--- what a log tells of an act is one line, which asks for the edit of the same fields, if there is one, and is no remark
+-- what a log tells of an act is one line, which asks for the edit of the same fields, if there is
+-- one, and is no remark
 pub record IsReadBack (items : Items) (a : Body) : Type 0 where
   pub one_line : IsOneLine (act_text a)
   pub speaks : is_silent (act_text a) ≡ false

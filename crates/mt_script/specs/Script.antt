@@ -1,5 +1,6 @@
 -- What a script makes (profile).
-use Rattle.std.specs.Prelude.{◌≡◌, ◌≢◌, ℕ, suc, List, [], ◌∷◌, ◌++◌, length, Option, Some, None, Result, Ok, Err, if◌then◌else◌}
+use Rattle.std.specs.Prelude.{◌≡◌, ◌≢◌, ℕ, suc, List, [], ◌∷◌, ◌++◌, length, Option, Some, None}
+use Rattle.std.specs.Prelude.{Result, Ok, Err, if◌then◌else◌}
 use Rattle.mt_stamp.specs.declared.name.Replica.{Replica}
 use Rattle.mt_stamp.specs.StampOrder.{Stamp}
 use Rattle.mt_op.specs.OpValue.{Op}
@@ -17,7 +18,8 @@ use Rattle.mt_script.specs.Forms.{Items, asked}
 
 -- the second step, where the first is not refused
 infixl 10 ◌>>=◌
-abbrev pub ◌>>=◌ : {X Y : Type 0} → Result X ScriptFault → (X → Result Y ScriptFault) → Result Y ScriptFault
+abbrev pub ◌>>=◌ : {X Y : Type 0} → Result X ScriptFault → (X → Result Y ScriptFault)
+    → Result Y ScriptFault
 (Ok x) >>= f = f x
 (Err fault) >>= f = Err fault
 
@@ -32,9 +34,11 @@ abbrev pub asked_at : ℕ → List Op → Replica → Option Edit → Result (Li
 asked_at line ops name None = Err (BadLine line)
 asked_at line ops name (Some edit) = made_at line (made ops name edit)
 
--- What a line makes of a set, where each line before it made what `items` says; it is the next line, counted from 1.
+-- What a line makes of a set, where each line before it made what `items` says; it is the next
+-- line, counted from 1.
 abbrev pub made_by_line : List Op → Replica → Items → List ℕ → Result (List Op) ScriptFault
-made_by_line ops name items line = if is_silent line then Ok [] else asked_at (suc (length items)) ops name (asked items line)
+made_by_line ops name items line = if is_silent line then Ok [] else asked_at (suc (length items))
+    ops name (asked items line)
 
 -- the item that a line made: an operation that adds an item makes it, under its own stamp
 abbrev pub item_made : List Op → Option Stamp
@@ -74,8 +78,8 @@ abbrev pub counted : Result (List Op) ScriptFault → Result ℕ ScriptFault
 counted (Ok ops) = Ok (length ops)
 counted (Err fault) = Err fault
 
--- A run answers how many operations the script makes, or its refusal; or that an allocation failed, which a failed editor does
--- not try.
+-- A run answers how many operations the script makes, or its refusal; or that an allocation failed,
+-- which a failed editor does not try.
 abbrev pub RunGives : Editor → List ℕ → Result ℕ ScriptFault → Type 0
 RunGives kept text (Err Memory) = kept.log ≢ None
 RunGives kept text result = result ≡ counted (scripted_in kept text)
@@ -94,7 +98,8 @@ abbrev pub kept_with_all : Editor → Result (List Op) ScriptFault → Editor
 kept_with_all kept (Ok ops) = kept_with_ops kept ops
 kept_with_all kept (Err fault) = kept
 
--- What the editor holds after it: a copy with all that the script makes, or after a refusal what it held.
+-- What the editor holds after it: a copy with all that the script makes, or after a refusal what it
+-- held.
 abbrev pub after_run : Editor → List ℕ → Result ℕ ScriptFault → Editor
 after_run kept text (Ok count) = kept_with_all (copied kept) (scripted_in kept text)
 after_run kept text (Err fault) = kept

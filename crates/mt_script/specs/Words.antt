@@ -1,5 +1,7 @@
--- The words of a script's lines, and what each says (profile): none where it says nothing of its kind.
-use Rattle.std.specs.Prelude.{ℕ, ◌+◌, ◌-◌, ◌^◌, Bool, true, false, ◌==◌, ◌&&◌, nat_lt, List, drop, slice_get, slice_index, Option, Some, None, if◌then◌else◌, codes}
+-- The words of a script's lines, and what each says (profile): none where it says nothing of its
+-- kind.
+use Rattle.std.specs.Prelude.{ℕ, ◌+◌, ◌-◌, ◌^◌, Bool, true, false, ◌==◌, ◌&&◌, nat_lt, List, drop}
+use Rattle.std.specs.Prelude.{slice_get, slice_index, Option, Some, None, if◌then◌else◌, codes}
 use Rattle.std.specs.Option.{option_map, option_flatten}
 use Rattle.std.specs.Result.{result_ok}
 use Rattle.std.specs.Fmt.{decimal}
@@ -32,7 +34,8 @@ stroke = 47
 
 -- ---- numbers
 
--- the number below the limit that the text is the decimal spelling of: digits alone, and no leading zero
+-- the number below the limit that the text is the decimal spelling of: digits alone, and no leading
+-- zero
 unfoldable pub number_below : ℕ → List ℕ → Option ℕ
 number_below limit text =
     if nat_lt (digits_value 10 text) limit && bytes_eq text (decimal (digits_value 10 text))
@@ -66,7 +69,8 @@ parts_of_stamp text = do
   clock ← cut point text
   seq ← cut point clock.1
   replica ← parsed seq.1
-  Some (record { clock = digits_value 10 clock.0; replica = record { 0 = from_be_bytes w128 replica }; seq = digits_value 10 seq.0 })
+  Some (record { clock = digits_value 10 clock.0; replica = record
+      { 0 = from_be_bytes w128 replica }; seq = digits_value 10 seq.0 })
 
 -- whether a stamp has these parts
 abbrev pub is_moment : Stamp → Bool
@@ -101,7 +105,8 @@ after items text =
 
 -- DIGEST: 64 hex digits in either case
 unfoldable pub digest : List ℕ → Option Digest
-digest text = if is_digest_text text then option_map (λ bytes. record { 0 = bytes }) (result_ok (decode_of text)) else None
+digest text = if is_digest_text text then option_map (λ bytes. record { 0 = bytes })
+    (result_ok (decode_of text)) else None
 
 -- `on` or `off`
 abbrev pub switch : List ℕ → Option Bool

@@ -8,7 +8,8 @@ use mt_replica::EditorFault;
 use std::alloc::{AllocError, AllocFailed};
 use thiserror::Error;
 
-/// Why a script is refused. Each refusal has a number that never changes. Lines are counted from 1; empty lines and remarks count.
+/// Why a script is refused. Each refusal has a number that never changes. Lines are counted from 1;
+/// empty lines and remarks count.
 #[derive(Clone, Copy, Debug, PartialEq, Eq, Error)]
 pub enum ScriptFault {
     /// A growth was refused.

@@ -4,7 +4,10 @@ ghost use Rattle.std.specs.Prelude.{◌≡◌, IfOk};
 ghost use Rattle.std.specs.Option.{option_map};
 ghost use Rattle.mt_replica.specs.Changes.{edit_of};
 ghost use Rattle.mt_script.specs.Words.{title};
-ghost use Rattle.mt_script.specs.Forms.{forms, said_by, said, asked, add_track, move_track, add_clip, move_clip, trim_clip, set_gain, set_mute, remove, restore, add_marker, move_marker, retitle, set_fade, set_marker_length};
+ghost use Rattle.mt_script.specs.Forms.{forms, said_by, said, asked, add_track, move_track};
+ghost use Rattle.mt_script.specs.Forms.{add_clip, move_clip, trim_clip, set_gain, set_mute, remove};
+ghost use Rattle.mt_script.specs.Forms.{restore, add_marker, move_marker, retitle, set_fade};
+ghost use Rattle.mt_script.specs.Forms.{set_marker_length};
 
 use crate::words::{
     after_of, cut_word, digest_of, fade_length_of, gain_of, item_of, number_of, switch_of,
@@ -221,7 +224,8 @@ fn change_by<A: Allocator>(
     word: &str,
     text: &str,
 ) -> Result<Option<Change<A>>, AllocError>
-    ensures { IfOk result (λ change. option_map edit_of change ≡ said_by forms word.now items.now text.now) }
+    ensures { IfOk result (λ change. option_map edit_of change
+        ≡ said_by forms word.now items.now text.now) }
 {
     if word == "add-track" {
         add_track(alloc, items, text)

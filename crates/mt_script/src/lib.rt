@@ -33,20 +33,24 @@
 //! }
 //! ```
 //!
-//! `run(alloc, &mut editor, text)?` makes these changes in order and answers 4: a track `Voice` at the head of the track order; on
-//! the track that line 2 made a clip, from frame 0 of the session on, of 20 frames of the recording with that SHA-256, from its
-//! frame 10 on; the gain 1/2 for the clip that line 3 made; and a marker at frame 480. The first line is a remark: it makes nothing,
+//! `run(alloc, &mut editor, text)?` makes these changes in order and answers 4: a track `Voice` at
+//! the head of the track order; on the track that line 2 made a clip, from frame 0 of the session
+//! on, of 20 frames of the recording with that SHA-256, from its frame 10 on; the gain 1/2 for the
+//! clip that line 3 made; and a marker at frame 480. The first line is a remark: it makes nothing,
 //! but is counted, as an empty line is.
 //!
-//! All or none: at the first line that has none of the fourteen forms (`BadLine`), or whose change the editor refuses (`Refused`),
-//! the editor is as it was, and the fault tells the line, counted from 1. `specs/Forms.antt` and `specs/Words.antt` are the grammar,
-//! `specs/Lines.antt` how a text is cut, `specs/Script.antt` what is made. What a log's text says of an act is such a line, but for a `remove`,
-//! of which it lists the tags (`laws::acts_read_back`).
+//! All or none: at the first line that has none of the fourteen forms (`BadLine`), or whose change
+//! the editor refuses (`Refused`), the editor is as it was, and the fault tells the line, counted
+//! from 1. `specs/Forms.antt` and `specs/Words.antt` are the grammar, `specs/Lines.antt` how a text
+//! is cut, `specs/Script.antt` what is made. What a log's text says of an act is such a line, but
+//! for a `remove`, of which it lists the tags (`laws::acts_read_back`).
 //!
-//! `run_draft(alloc, draft, text)?` makes the same in a draft, and answers it with how many they are; at a refusal the draft is gone.
+//! `run_draft(alloc, draft, text)?` makes the same in a draft, and answers it with how many they
+//! are; at a refusal the draft is gone.
 //!
-//! What `run_draft` costs: its edits, and a walk over the text with no copy of it but of the titles. `run` makes a draft of the editor,
-//! which is a copy of its log, runs the script in it, and makes an editor of it, with its session.
+//! What `run_draft` costs: its edits, and a walk over the text with no copy of it but of the
+//! titles. `run` makes a draft of the editor, which is a copy of its log, runs the script in it,
+//! and makes an editor of it, with its session.
 #![tactic(auto)]
 
 mod fault;

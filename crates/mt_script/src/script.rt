@@ -1,7 +1,8 @@
 //! Running a script.
 
 ghost use Rattle.std.specs.Prelude.{◌≡◌, ◌≢◌, ◌↔◌, ◌∷◌, [], None, IfOk, IsErrOf};
-ghost use Rattle.mt_script.specs.Script.{RunGives, scripted_in, count_of, kept_with_all, after_run, item_made};
+ghost use Rattle.mt_script.specs.Script.{RunGives, scripted_in, count_of, kept_with_all, after_run};
+ghost use Rattle.mt_script.specs.Script.{item_made};
 ghost use Rattle.mt_script.specs.Running.{LineGives, LinesGive};
 
 use crate::fault::ScriptFault;
@@ -24,7 +25,8 @@ fn item_of<A: Allocator>(op: &Op<A>) -> Option<Stamp>
     }
 }
 
-// Makes what a line asks for, notes which item that is, and answers how many operations it took: one or none.
+// Makes what a line asks for, notes which item that is, and answers how many operations it took:
+// one or none.
 fn make_line<A: Allocator + Clone>(
     alloc: A,
     draft: &mut Draft<A>,
@@ -71,19 +73,22 @@ fn make_lines<A: Allocator + Clone>(
     Ok(count)
 }
 
-/// Makes the changes of a script in order in a draft, and answers the draft with what they made, and how many they are: as `run` does in
-/// an editor, with no copy of the draft and no session. Titles and what the lines made are kept in memory of `alloc`.
+/// Makes the changes of a script in order in a draft, and answers the draft with what they made,
+/// and how many they are: as `run` does in an editor, with no copy of the draft and no session.
+/// Titles and what the lines made are kept in memory of `alloc`.
 ///
-/// Refused as `Failed` (20) where the draft has failed; then at the first line at fault, counted from 1, as `BadLine` (41) where it
-/// has none of the forms, and as `Refused` (42) where the draft refuses its change for another cause than memory, with that
-/// cause; and as `Memory` (0) where there is none. After every refusal the draft is gone. The draft that is answered has not failed.
+/// Refused as `Failed` (20) where the draft has failed; then at the first line at fault, counted
+/// from 1, as `BadLine` (41) where it has none of the forms, and as `Refused` (42) where the draft
+/// refuses its change for another cause than memory, with that cause; and as `Memory` (0) where
+/// there is none. After every refusal the draft is gone. The draft that is answered has not failed.
 pub fn run_draft<A: Allocator + Clone>(
     alloc: A,
     draft: Draft<A>,
     text: &[u8],
 ) -> Result<(Draft<A>, usize), ScriptFault>
     ensures gives { RunGives draft text.now (count_of result) }
-    ensures holds { IfOk result (λ made. made.0 ≡ kept_with_all draft (scripted_in draft text.now)) }
+    ensures holds { IfOk result (λ made. made.0 ≡ kept_with_all draft (scripted_in draft text.now))
+        }
     ensures whole { IfOk result (λ made. made.0.log ≢ None) }
     ensures failed { IsErrOf result ScriptFault.Failed ↔ (draft.log ≡ None) }
 {
@@ -97,11 +102,13 @@ pub fn run_draft<A: Allocator + Clone>(
     }
 }
 
-/// Makes the changes of a script in order, and answers how many. Titles and what the lines made are kept in memory of `alloc`.
+/// Makes the changes of a script in order, and answers how many. Titles and what the lines made are
+/// kept in memory of `alloc`.
 ///
-/// Refused as `Failed` (20) where the editor has failed; then at the first line at fault, counted from 1, as `BadLine` (41) where it
-/// has none of the forms, and as `Refused` (42) where the editor refuses its change for another cause than memory, with that
-/// cause; and as `Memory` (0) where there is none. The changes are made in a draft: after every refusal the editor is as it was.
+/// Refused as `Failed` (20) where the editor has failed; then at the first line at fault, counted
+/// from 1, as `BadLine` (41) where it has none of the forms, and as `Refused` (42) where the editor
+/// refuses its change for another cause than memory, with that cause; and as `Memory` (0) where
+/// there is none. The changes are made in a draft: after every refusal the editor is as it was.
 pub fn run<A: Allocator + Clone>(
     alloc: A,
     editor: &mut Editor<A>,

@@ -3,7 +3,8 @@
 ghost use Rattle.std.specs.Prelude.{◌≡◌, ◌^◌};
 ghost use Rattle.std.specs.Option.{option_map};
 ghost use Rattle.base_text.specs.Cutting.{cut};
-ghost use Rattle.mt_script.specs.Words.{space, stroke, number_below, number, fade_length, gain, stamp, item_of_line, item, after, digest, switch};
+ghost use Rattle.mt_script.specs.Words.{space, stroke, number_below, number, fade_length, gain};
+ghost use Rattle.mt_script.specs.Words.{stamp, item_of_line, item, after, digest, switch};
 
 use itoa::Buffer;
 use mt_op::{Digest, Gain, LONGEST_FADE};

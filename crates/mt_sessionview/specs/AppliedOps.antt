@@ -1,4 +1,5 @@
--- What a session shows, of its ready operations alone. Working definitions: those of Session.antt, of the ready operations in any order.
+-- What a session shows, of its ready operations alone. Working definitions: those of Session.antt,
+-- of the ready operations in any order.
 use Rattle.std.specs.Prelude.{Bool, false, ◌&&◌, List, [], map, Option, option_map, unwrap_or}
 use Rattle.std.specs.List.{filter, filter_map}
 use Rattle.std.specs.declared.cmp.Ordering.{Ordering}
@@ -13,7 +14,10 @@ use Rattle.mt_op.specs.declared.value.FadeLengths.{FadeLengths}
 use Rattle.mt_op.specs.OpValue.{Body, Op}
 use Rattle.mt_op.specs.declared.need.Role.TheVariants.{Place}
 use Rattle.mt_op.specs.Needs.{stamp_eq, adds_track, adds_clip, adds_marker, fits}
-use Rattle.mt_op.specs.Writes.{Write, title_written, gain_written, mute_written, track_place_written, clip_place_written, trim_written, source_written, position_written, fades_written, marker_length_written, no_fades, last_write}
+use Rattle.mt_op.specs.Writes.{Write, title_written, gain_written, mute_written}
+use Rattle.mt_op.specs.Writes.{track_place_written, clip_place_written, trim_written}
+use Rattle.mt_op.specs.Writes.{source_written, position_written, fades_written}
+use Rattle.mt_op.specs.Writes.{marker_length_written, no_fades, last_write}
 use Rattle.mt_op.specs.Presence.{is_present}
 use Rattle.mt_sessionview.specs.SessionValue.{Clip, Track, Marker, clip_cmp, marker_cmp}
 use Rattle.mt_sessionview.specs.Session.{place_added}
@@ -42,7 +46,8 @@ module _ (r : List Op) where
   markers_in = sort_by marker_cmp (map marker_in (shown_in adds_marker))
 
   abbrev pub clip_place_in : Stamp → Written Placement
-  clip_place_in clip = unwrap_or (last_write clip_place_written clip r) (record { writer = clip; value = record { track = clip; at = 0 } })
+  clip_place_in clip = unwrap_or (last_write clip_place_written clip r)
+      (record { writer = clip; value = record { track = clip; at = 0 } })
 
   abbrev pub clip_trim_in : Stamp → TrimRange
   clip_trim_in clip = unwrap_or (value_in trim_written clip) (record { offset = 0; len = 0 })
@@ -68,7 +73,8 @@ module _ (r : List Op) where
   }
 
   abbrev pub is_clip_on_in : Stamp → Op → Bool
-  is_clip_on_in track o = is_shown_in adds_clip o && stamp_eq (clip_place_in o.stamp).value.track track
+  is_clip_on_in track o = is_shown_in adds_clip o && stamp_eq (clip_place_in o.stamp).value.track
+      track
 
   abbrev pub clips_in : Stamp → List Clip
   clips_in track = sort_by clip_cmp (map clip_in (filter (is_clip_on_in track) r))
@@ -84,7 +90,8 @@ module _ (r : List Op) where
   placed_in = sort_by by_place (filter (fits Place) r)
 
   abbrev pub track_place_in : Stamp → Stamp
-  track_place_in track = unwrap_or (option_map (λ (w : Written (Option Stamp)). w.writer) (last_write track_place_written track r)) track
+  track_place_in track = unwrap_or (option_map (λ (w : Written (Option Stamp)). w.writer)
+      (last_write track_place_written track r)) track
 
   abbrev pub track_cmp_in : Op → Op → Ordering
   track_cmp_in a b = tree_cmp places_in (track_place_in a.stamp) (track_place_in b.stamp)

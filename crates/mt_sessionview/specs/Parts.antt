@@ -17,12 +17,15 @@ abbrev pub session_in : List Op → ℕ → Session
 session_in items held = record { tracks = tracks_in items; markers = markers_in items; held = held }
 
 -- the tracks that noted operations show, and the cells of the markers
-pub record ArePartsOf {A : Type 0} (items : List Op) (tracks : List Track) (cells : List (Stamp × MarkerCells A)) : Type 0 where
+pub record ArePartsOf {A : Type 0} (items : List Op) (tracks : List Track)
+    (cells : List (Stamp × MarkerCells A)) : Type 0 where
   pub applied : AreApplied items
   pub tracks_are : tracks ≡ tracks_in items
   pub markers_are : keys_of cells ≡ items_of MarkerRole items
   pub each : AllByRecursion (λ e. HoldsMarker e.0 items e.1) cells
 
 -- the same of the session of operations
-abbrev pub ArePartsOfSession : {A : Type 0} → List Op → List Track → List (Stamp × MarkerCells A) → ℕ → Type 0
-ArePartsOfSession ops tracks cells held = (items : List Op) × (ArePartsOf items tracks cells × (session_in items held ≡ session_of ops))
+abbrev pub ArePartsOfSession : {A : Type 0} → List Op → List Track → List (Stamp × MarkerCells A)
+    → ℕ → Type 0
+ArePartsOfSession ops tracks cells held = (items : List Op)
+    × (ArePartsOf items tracks cells × (session_in items held ≡ session_of ops))

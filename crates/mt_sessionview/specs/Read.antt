@@ -1,5 +1,6 @@
 -- What is read of the operations noted, item by item. Working definitions.
-use Rattle.std.specs.Prelude.{◌≡◌, ℕ, Bool, false, ◌&&◌, List, [], ◌∷◌, Option, Some, None, MatchOption, unwrap_or, slice_index_or, if◌then◌else◌}
+use Rattle.std.specs.Prelude.{◌≡◌, ℕ, Bool, false, ◌&&◌, List, [], ◌∷◌, Option, Some, None}
+use Rattle.std.specs.Prelude.{MatchOption, unwrap_or, slice_index_or, if◌then◌else◌}
 use Rattle.std.specs.BTreeMap.{BTreeMap, get}
 use Rattle.std.specs.List.{filter_map}
 use Rattle.std.specs.Map.{lookup}
@@ -16,7 +17,9 @@ use Rattle.mt_op.specs.declared.need.Role.TheVariants.{Track as TrackRole, Clip 
 use Rattle.mt_op.specs.Needs.{need_of}
 use Rattle.mt_op.specs.OpValue.{Body, AddTrack, MoveTrack, AddMarker, Op}
 use Rattle.mt_op.specs.Presence.{is_present}
-use Rattle.mt_op.specs.Writes.{title_written, gain_written, mute_written, track_place_written, clip_place_written, trim_written, source_written, position_written, fades_written, marker_length_written, no_fades, last_write}
+use Rattle.mt_op.specs.Writes.{title_written, gain_written, mute_written, track_place_written}
+use Rattle.mt_op.specs.Writes.{clip_place_written, trim_written, source_written, position_written}
+use Rattle.mt_op.specs.Writes.{fades_written, marker_length_written, no_fades, last_write}
 use Rattle.mt_sessionview.specs.SessionValue.{Clip, Track, Marker}
 use Rattle.session_state.specs.Cells.{items_of}
 use Rattle.session_state.specs.Fields.{HoldsLast}
@@ -38,14 +41,16 @@ module _ (applied : List Op) where
   })
 
   abbrev pub marker_read : Stamp → Option Marker
-  marker_read marker = if is_present applied marker then marker_from marker (last_write title_written marker applied) else None
+  marker_read marker = if is_present applied marker then marker_from marker
+      (last_write title_written marker applied) else None
 
   -- the fades of a clip
   abbrev pub fades_of : Stamp → FadeLengths
   fades_of clip = unwrap_or (value_in applied fades_written clip) no_fades
 
   -- a clip that is present, with the track that it is on
-  abbrev pub clip_from : Stamp → Option (Written Placement) → Option (Written TrimRange) → Option (Written Digest) → Option OnTrack
+  abbrev pub clip_from : Stamp → Option (Written Placement) → Option (Written TrimRange)
+      → Option (Written Digest) → Option OnTrack
   clip_from clip (Some place) (Some trim) (Some source) = Some (record {
     track = place.value.track;
     clip = record {
@@ -64,7 +69,9 @@ module _ (applied : List Op) where
   clip_from clip _ _ _ = None
 
   abbrev pub clip_read : Stamp → Option OnTrack
-  clip_read clip = if is_present applied clip then clip_from clip (last_write clip_place_written clip applied) (last_write trim_written clip applied) (last_write source_written clip applied) else None
+  clip_read clip = if is_present applied clip then clip_from clip
+      (last_write clip_place_written clip applied) (last_write trim_written clip applied)
+      (last_write source_written clip applied) else None
 
   -- the clip, where it is on this track
   abbrev pub if_on : Stamp → Option OnTrack → Option Clip
@@ -80,7 +87,8 @@ module _ (applied : List Op) where
   is_writer place (Some w) = stamp_eq w.writer place
 
   abbrev pub stands_at : Stamp → Stamp → Bool
-  stands_at track place = is_writer place (last_write track_place_written track applied) && is_present applied track
+  stands_at track place = is_writer place (last_write track_place_written track applied)
+      && is_present applied track
 
   abbrev pub if_standing : Stamp → Option Stamp → Option Stamp
   if_standing place None = None
@@ -113,14 +121,17 @@ place_after _ = None
 abbrev pub tree_place : Op → TreePlace
 tree_place o = record { place = o.stamp; after = place_after o.act }
 
--- the element that an operation gives a list of places; where it gives no place, its own stamp at the head
+-- the element that an operation gives a list of places; where it gives no place, its own stamp at
+-- the head
 abbrev pub place_of_op : Op → Placed
-place_of_op o = record { place = o.stamp; after = place_after o.act; track = unwrap_or (placed_track o.stamp o.act) o.stamp }
+place_of_op o = record { place = o.stamp; after = place_after o.act; track = unwrap_or
+    (placed_track o.stamp o.act) o.stamp }
 
 module _ (applied : List Op) where
   -- the clips of a track, by their rising stamps
   abbrev pub HasClips : BTreeMap Stamp (List Clip) → Stamp → Type 0
-  HasClips table track = unwrap_or (get stamp_cmp table track) [] ≡ filter_map (clip_on applied track) (items_of ClipRole applied)
+  HasClips table track = unwrap_or (get stamp_cmp table track) []
+      ≡ filter_map (clip_on applied track) (items_of ClipRole applied)
 
   -- the clips of each track
   abbrev pub AreTheClips : BTreeMap Stamp (List Clip) → Type 0
@@ -128,7 +139,8 @@ module _ (applied : List Op) where
 
   abbrev pub track_where : Option Stamp → Option Track
   track_where None = None
-  track_where (Some track) = track_from applied track (clips_in applied track) (last_write title_written track applied)
+  track_where (Some track) = track_from applied track (clips_in applied track)
+      (last_write title_written track applied)
 
   -- the present track that stands where an operation put it
   abbrev pub standing : Op → Option Stamp
@@ -139,11 +151,14 @@ module _ (applied : List Op) where
 
 -- the cells of each track hold where it stands and its tags, and there are cells of nothing else
 abbrev pub HoldStands : {A : Type 0} → List Op → List (Stamp × TrackCells A) → Type 0
-HoldStands applied cells = (track : Stamp) → MatchOption (lookup (stamp_eq track) cells) (is_need_met applied (need_of TrackRole track) ≡ false) (λ c. HoldsLast track_place_written track applied c.place × HoldsTags track applied c.presence)
+HoldStands applied cells = (track : Stamp) → MatchOption (lookup (stamp_eq track) cells)
+    (is_need_met applied (need_of TrackRole track) ≡ false)
+    (λ c. HoldsLast track_place_written track applied c.place × HoldsTags track applied c.presence)
 
 -- the operation at a place, and one in no list where there is none
 abbrev pub op_at : List Op → ℕ → Op
-op_at ops p = slice_index_or ops p (record { stamp = record { clock = 0; replica = record { 0 = 0 }; seq = 0 }; act = AddMarker 0 [] })
+op_at ops p = slice_index_or ops p (record { stamp = record
+    { clock = 0; replica = record { 0 = 0 }; seq = 0 }; act = AddMarker 0 [] })
 
 -- the operations at these places, in this order
 abbrev pub ops_at : List Op → List ℕ → List Op

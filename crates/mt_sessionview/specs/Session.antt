@@ -1,5 +1,6 @@
 -- The session of a set of operations.
-use Rattle.std.specs.Prelude.{Bool, false, ◌&&◌, List, map, filter, length, Option, option_map, unwrap_or, []}
+use Rattle.std.specs.Prelude.{Bool, false, ◌&&◌, List, map, filter, length, Option, option_map}
+use Rattle.std.specs.Prelude.{unwrap_or, []}
 use Rattle.std.specs.List.{filter_map}
 use Rattle.std.specs.declared.cmp.Ordering.{Ordering}
 use Rattle.mt_stamp.specs.StampOrder.{Stamp}
@@ -13,7 +14,10 @@ use Rattle.mt_op.specs.declared.value.FadeLengths.{FadeLengths}
 use Rattle.mt_op.specs.OpValue.{Body, Op}
 use Rattle.mt_op.specs.Needs.{needs, meets, clock_of, stamp_eq, adds_track, adds_clip, adds_marker}
 use Rattle.mt_op.specs.Ready.{ready, held}
-use Rattle.mt_op.specs.Writes.{Write, title_written, gain_written, mute_written, track_place_written, clip_place_written, trim_written, source_written, position_written, fades_written, marker_length_written, no_fades, last_write}
+use Rattle.mt_op.specs.Writes.{Write, title_written, gain_written, mute_written}
+use Rattle.mt_op.specs.Writes.{track_place_written, clip_place_written, trim_written}
+use Rattle.mt_op.specs.Writes.{source_written, position_written, fades_written}
+use Rattle.mt_op.specs.Writes.{marker_length_written, no_fades, last_write}
 use Rattle.mt_op.specs.Presence.{is_present}
 use Rattle.mt_stamp.specs.Sorting.{sort_by}
 use Rattle.mt_sessionview.specs.SessionValue.{Clip, Track, Marker, Session, clip_cmp, marker_cmp}
@@ -30,12 +34,15 @@ stamps_of s = map (λ o. o.stamp) s
 abbrev pub held_ops : List Op → List Op
 held_ops s = held clock_of needs meets s
 
--- the last write of an item's field, where there is one (LWW-Register: INRIA RR-7506, section 3.2.1)
-abbrev pub field_write : {X : Type 0} → (Stamp → Body → Option (Write X)) → List Op → Stamp → Option (Written X)
+-- the last write of an item's field, where there is one (LWW-Register: INRIA RR-7506, section
+-- 3.2.1)
+abbrev pub field_write : {X : Type 0} → (Stamp → Body → Option (Write X)) → List Op → Stamp
+    → Option (Written X)
 field_write field s item = last_write field item (ready_ops s)
 
 -- the value of an item's field: what the last writer wrote
-abbrev pub field_value : {X : Type 0} → (Stamp → Body → Option (Write X)) → List Op → Stamp → Option X
+abbrev pub field_value : {X : Type 0} → (Stamp → Body → Option (Write X)) → List Op → Stamp
+    → Option X
 field_value {X} field s item = option_map (λ (w : Written X). w.value) (field_write field s item)
 
 -- whether an operation added an item of a kind that is present
@@ -61,7 +68,8 @@ marker_of s o = record {
 
 -- where a clip is, its track and its frame, with the stamp of the operation that put it there
 abbrev pub clip_place : List Op → Stamp → Written Placement
-clip_place s clip = unwrap_or (field_write clip_place_written s clip) (record { writer = clip; value = record { track = clip; at = 0 } })
+clip_place s clip = unwrap_or (field_write clip_place_written s clip)
+    (record { writer = clip; value = record { track = clip; at = 0 } })
 
 -- what a clip plays of its recording
 abbrev pub clip_trim : List Op → Stamp → TrimRange
@@ -100,9 +108,11 @@ clips_on s track = sort_by clip_cmp (map (clip_of s) (filter (is_clip_on s track
 
 -- ---- tracks
 
--- the place that an operation gives a track in the track order, and after which it is (RGA: INRIA RR-7506, co-operative text editing)
+-- the place that an operation gives a track in the track order, and after which it is (RGA: INRIA
+-- RR-7506, co-operative text editing)
 abbrev pub place_added : Op → Option TreePlace
-place_added o = option_map (λ (w : Write (Option Stamp)). record { place = o.stamp; after = w.value }) (track_place_written o.stamp o.act)
+place_added o = option_map (λ (w : Write (Option Stamp)). record
+    { place = o.stamp; after = w.value }) (track_place_written o.stamp o.act)
 
 -- all places that ready operations gave; none is ever taken out
 abbrev pub places : List Op → List TreePlace
@@ -110,7 +120,8 @@ places s = filter_map place_added (ready_ops s)
 
 -- where a track stands: the place of the last operation that put it anywhere
 abbrev pub track_place : List Op → Stamp → Stamp
-track_place s track = unwrap_or (option_map (λ (w : Written (Option Stamp)). w.writer) (field_write track_place_written s track)) track
+track_place s track = unwrap_or (option_map (λ (w : Written (Option Stamp)). w.writer)
+    (field_write track_place_written s track)) track
 
 -- tracks by their places
 abbrev pub track_cmp : List Op → Op → Op → Ordering
@@ -128,8 +139,8 @@ track_of s o = record {
 
 -- ---- the session
 
--- The session of a set: its tracks, each once, in the order of their places, its markers by position and stamp, and the
--- number held. A clip whose track is absent is not shown.
+-- The session of a set: its tracks, each once, in the order of their places, its markers by
+-- position and stamp, and the number held. A clip whose track is absent is not shown.
 abbrev pub session_of : List Op → Session
 session_of s = record {
   tracks = map (track_of s) (sort_by (track_cmp s) (shown_ops adds_track s));

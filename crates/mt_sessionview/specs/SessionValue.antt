@@ -8,9 +8,9 @@ use Rattle.mt_op.specs.declared.digest.Digest.{Digest}
 use Rattle.mt_op.specs.Valid.{longest_fade}
 use Rattle.mt_stamp.specs.Sorting.{RisesStrictly, DifferBy}
 
--- a clip: the stamp that names it, the stamp of the operation that gave its place, where it begins in the session, the
--- first frame of its recording that it plays and how many, in frames, how it sounds, and over how many frames it fades in and
--- out
+-- a clip: the stamp that names it, the stamp of the operation that gave its place, where it begins
+-- in the session, the first frame of its recording that it plays and how many, in frames, how it
+-- sounds, and over how many frames it fades in and out
 pub record Clip : Type 0 where
   pub clip : Stamp
   pub place : Stamp
@@ -31,7 +31,8 @@ pub record Track : Type 0 where
   pub mute : Bool
   pub clips : List Clip
 
--- a marker: the stamp that names it, where it stands and how many frames it spans, 0 for a point, and its title
+-- a marker: the stamp that names it, where it stands and how many frames it spans, 0 for a point,
+-- and its title
 pub record Marker : Type 0 where
   pub marker : Stamp
   pub at : ℕ
@@ -58,7 +59,8 @@ pub record IsClip (c : Clip) : Type 0 where
   pub fade_in : c.fade_in ≤ longest_fade
   pub fade_out : c.fade_out ≤ longest_fade
 
--- the clips of a track rise by position and by the stamp of their place, and no two have the same place
+-- the clips of a track rise by position and by the stamp of their place, and no two have the same
+-- place
 pub record AreClips (clips : List Clip) : Type 0 where
   pub rise : RisesStrictly clip_cmp clips
   pub apart : DifferBy (λ (c : Clip). c.place) clips

@@ -25,7 +25,8 @@ use mt_stamp::{List, Stamp};
 use session_state::{ItemStates, MarkerCells};
 use std::alloc::{AllocError, Allocator};
 
-// The tracks that noted operations leave, in the order of their places, from the operations that gave these, in order.
+// The tracks that noted operations leave, in the order of their places, from the operations that
+// gave these, in order.
 fn tracks_of<A: Allocator + Clone>(
     alloc: &A,
     items: &ItemStates<A>,
@@ -39,7 +40,8 @@ fn tracks_of<A: Allocator + Clone>(
     tracks(alloc, items, clips, placed)
 }
 
-// The tracks that ready operations show, in the order of their places; beside them the operations that gave these, in order.
+// The tracks that ready operations show, in the order of their places; beside them the operations
+// that gave these, in order.
 fn placed_tracks<'a, A: Allocator + Clone>(
     alloc: &A,
     ready: &[&'a Op<A>],
@@ -70,9 +72,10 @@ fn markers_of<A: Allocator + Clone>(
     Ok(markers)
 }
 
-/// The session that ready operations show, from these by rising stamp and the items that they leave, noted in whatever order, with a
-/// number of others held; beside it the operations that give tracks their places, in the order of these. In a time of n log n for
-/// n operations and items. Refused only as `AllocError`.
+/// The session that ready operations show, from these by rising stamp and the items that they
+/// leave, noted in whatever order, with a number of others held; beside it the operations that give
+/// tracks their places, in the order of these. In a time of n log n for n operations and items.
+/// Refused only as `AllocError`.
 pub fn session_of_ready<'a, A: Allocator + Clone>(
     alloc: A,
     ready: &[&'a Op<A>],
@@ -83,7 +86,8 @@ pub fn session_of_ready<'a, A: Allocator + Clone>(
     requires same { (f : Op → ℕ) → sum_by f items.now ≡ sum_by f (map (λ o. o.now) ready.now) }
     requires rising { RisesStrictly op_cmp (map (λ o. o.now) ready.now) }
     requires tree { IsTree (places_in (map (λ o. o.now) ready.now)) }
-    ensures session { IfOk result (λ both. both.0 ≡ record { tracks = tracks_in items.now; markers = markers_in items.now; held = held }) }
+    ensures session { IfOk result (λ both. both.0 ≡ record
+        { tracks = tracks_in items.now; markers = markers_in items.now; held = held }) }
     ensures placed { IfOk result (λ both. map (λ o. o.now) both.1.items ≡ placed_in items.now) }
 {
     let (tracks, placed) = placed_tracks(&alloc, ready, items)?;
@@ -96,8 +100,8 @@ pub fn session_of_ready<'a, A: Allocator + Clone>(
     Ok((session, placed))
 }
 
-// What a session is made of: the tracks in order, the cells of the markers, with the titles that they hold, and how many operations are held. None of it
-// stands on the log's memory.
+// What a session is made of: the tracks in order, the cells of the markers, with the titles that
+// they hold, and how many operations are held. None of it stands on the log's memory.
 #[derive(Drop)]
 pub(crate) struct Parts<A: Allocator> {
     tracks: Vec<TrackView<A>, A>,
@@ -135,13 +139,14 @@ fn count_held<A: Allocator>(count: usize, ready: &[&Op<A>]) -> u64
     (count - ready.len()) as u64
 }
 
-/// What the session of a log's operations is made of: in a time of n log n for n of them and of the tags that they list. Refused only as
-/// `AllocError`.
+/// What the session of a log's operations is made of: in a time of n log n for n of them and of the
+/// tags that they list. Refused only as `AllocError`.
 pub(crate) fn parts_of_log<A: Allocator + Clone>(
     alloc: &A,
     log: &Log<A>,
 ) -> Result<Parts<A>, AllocError>
-    ensures ok { IfOk result (λ parts. ArePartsOfSession (operations log.now) parts.tracks.items parts.cells.items
+    ensures ok { IfOk result (λ parts. ArePartsOfSession (operations log.now) parts.tracks.items
+        parts.cells.items
         parts.held) }
 {
     // for the proof: that the dots of a log's operations differ
@@ -160,7 +165,8 @@ pub(crate) fn session_of_parts<A: Allocator + Clone>(
     parts: Parts<A>,
 ) -> Result<Session<A>, AllocError>
     requires { (items : ListOf Op) × ArePartsOf items parts.tracks.items parts.cells.items }
-    ensures ok { IfOk result (λ session. (items : ListOf Op) → ArePartsOf items parts.tracks.items parts.cells.items
+    ensures ok { IfOk result (λ session. (items : ListOf Op)
+        → ArePartsOf items parts.tracks.items parts.cells.items
         → session ≡ session_in items parts.held) }
 {
     let Parts {

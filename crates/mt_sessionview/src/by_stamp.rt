@@ -24,13 +24,14 @@ pub fn sorted_by_stamp<'a, A: Allocator, B: Allocator>(
     Ok(sorted)
 }
 
-/// References to a log's operations, by rising stamp. n operations cost n log n, and take memory for
-/// the references alone. `AllocError` where an allocation failed.
+/// References to a log's operations, by rising stamp. n operations cost n log n, and take memory
+/// for the references alone. `AllocError` where an allocation failed.
 pub fn sorted_ops<'a, A: Allocator, B: Allocator>(
     alloc: B,
     log: &'a Log<A>,
 ) -> Result<Vec<&'a Op<A>, B>, AllocError>
-    ensures { IfOk result (λ sorted. map (λ o. o.now) sorted.items ≡ sort_by op_cmp (operations log.now)) }
+    ensures { IfOk result (λ sorted. map (λ o. o.now) sorted.items
+        ≡ sort_by op_cmp (operations log.now)) }
 {
     // for the proof: that the dots of a log's operations differ
     let _ = log.runs();

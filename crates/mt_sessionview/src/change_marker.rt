@@ -1,10 +1,12 @@
 //! One marker of a session, put in or taken out.
 
-ghost use Rattle.std.specs.Prelude.{◌≡◌, true, false, IfNone, IfSome, OnErr, OnOk, find, filter, not};
+ghost use Rattle.std.specs.Prelude.{◌≡◌, true, false, IfNone, IfSome, OnErr, OnOk, find, filter};
+ghost use Rattle.std.specs.Prelude.{not};
 ghost use Rattle.std.specs.List.{list_any};
 ghost use Rattle.mt_stamp.specs.Sorting.{RisesStrictly, insert_by};
 ghost use Rattle.mt_sessionview.specs.SessionValue.{marker_cmp};
-ghost use Rattle.mt_sessionview.specs.Changing.{is_marker_at, marker_beside, IsPlace, StandsAt, IsNowhere};
+ghost use Rattle.mt_sessionview.specs.Changing.{is_marker_at, marker_beside, IsPlace, StandsAt};
+ghost use Rattle.mt_sessionview.specs.Changing.{IsNowhere};
 
 use crate::session::{MarkerView, Session};
 use mt_stamp::Stamp;
@@ -42,12 +44,14 @@ fn marker_index<A: Allocator>(markers: &[MarkerView<A>], at: u32, marker: Stamp)
 }
 
 impl<A: Allocator> Session<A> {
-    /// Puts a marker in where its position, in frames, and its stamp say. Finding the place takes as many comparisons as the
-    /// logarithm of how many markers there are, and what follows moves. No marker with its position and stamp may be there.
-    /// Refused only as `AllocError`, where an allocation failed, and then the session is unchanged.
+    /// Puts a marker in where its position, in frames, and its stamp say. Finding the place takes
+    /// as many comparisons as the logarithm of how many markers there are, and what follows moves.
+    /// No marker with its position and stamp may be there. Refused only as `AllocError`, where an
+    /// allocation failed, and then the session is unchanged.
     pub fn put_marker(&mut self, marker: MarkerView<A>) -> Result<(), AllocError>
         requires { list_any (is_marker_at marker.at marker.marker) self.old.markers ≡ false }
-        ensures ok { OnOk result (self.new ≡ record self.old { markers = insert_by marker_cmp marker self.old.markers }) }
+        ensures ok { OnOk result (self.new ≡ record self.old
+            { markers = insert_by marker_cmp marker self.old.markers }) }
         ensures kept { OnErr result (self.new ≡ self.old) }
     {
         let place = marker_place(self.markers.items(), marker.at, marker.marker);
@@ -55,23 +59,25 @@ impl<A: Allocator> Session<A> {
         Ok(())
     }
 
-    /// Takes the marker of this stamp out that stands at this position, in frames, and gives it back; `None` where there is
-    /// none. Finding it takes as many comparisons as the logarithm of how many markers there are, and what follows moves.
-    /// Takes no memory.
+    /// Takes the marker of this stamp out that stands at this position, in frames, and gives it
+    /// back; `None` where there is none. Finding it takes as many comparisons as the logarithm of
+    /// how many markers there are, and what follows moves. Takes no memory.
     pub fn take_marker(&mut self, at: u32, marker: Stamp) -> Option<MarkerView<A>>
         ensures taken { result ≡ find (is_marker_at at marker) self.old.markers }
-        ensures rest { self.new ≡ record self.old { markers = filter (λ m. not (is_marker_at at marker m)) self.old.markers } }
+        ensures rest { self.new ≡ record self.old { markers = filter
+            (λ m. not (is_marker_at at marker m)) self.old.markers } }
     {
         let index = marker_index(self.markers.items(), at, marker)?;
         Some(self.markers.remove(index))
     }
 
-    /// Puts a marker in the place of the one that stands at its position, in frames, under its stamp, as a new title asks.
-    /// One has to stand there. Finding it takes as many comparisons as the logarithm of how many markers there are. Takes no
-    /// memory.
+    /// Puts a marker in the place of the one that stands at its position, in frames, under its
+    /// stamp, as a new title asks. One has to stand there. Finding it takes as many comparisons as
+    /// the logarithm of how many markers there are. Takes no memory.
     pub fn set_marker(&mut self, marker: MarkerView<A>)
         requires { list_any (is_marker_at marker.at marker.marker) self.old.markers ≡ true }
-        ensures { self.new ≡ record self.old { markers = insert_by marker_cmp marker (filter (λ m. not (is_marker_at marker.at marker.marker m)) self.old.markers) } }
+        ensures { self.new ≡ record self.old { markers = insert_by marker_cmp marker
+            (filter (λ m. not (is_marker_at marker.at marker.marker m)) self.old.markers) } }
     {
         let Some(index) = marker_index(self.markers.items(), marker.at, marker.marker) else {
             return;

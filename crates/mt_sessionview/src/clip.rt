@@ -1,6 +1,7 @@
 //! Clips.
 
-ghost use Rattle.std.specs.Prelude.{◌≡◌, ◌≤◌, ◌++◌, List as ListOf, [], ◌∷◌, unwrap_or, if◌then◌else◌, IfOk, OnOk};
+ghost use Rattle.std.specs.Prelude.{◌≡◌, ◌≤◌, ◌++◌, List as ListOf, [], ◌∷◌, unwrap_or};
+ghost use Rattle.std.specs.Prelude.{if◌then◌else◌, IfOk, OnOk};
 ghost use Rattle.std.specs.BTreeMap.{get};
 ghost use Rattle.std.specs.List.Sorted.{IsPermutation, IsSorted};
 ghost use Rattle.mt_stamp.specs.StampOrder.{Stamp, stamp_cmp, stamp_eq};
@@ -58,7 +59,9 @@ fn apply_clip<A: Allocator + Clone>(
     table: &mut BTreeMap<Stamp, List<ClipView, A>, A>,
     found: OnTrack,
 ) -> Result<(), AllocError>
-    ensures ok { OnOk result ((track : Stamp) → unwrap_or (get stamp_cmp table.new track) [] ≡ unwrap_or (get stamp_cmp table.old track) [] ++ (if stamp_eq found.track track then found.clip ∷ [] else [])) }
+    ensures ok { OnOk result ((track : Stamp) → unwrap_or (get stamp_cmp table.new track) []
+        ≡ unwrap_or (get stamp_cmp table.old track) [] ++ (if stamp_eq found.track track then
+        found.clip ∷ [] else [])) }
 {
     if let Some(clips) = table.get_mut(&found.track) {
         clips.insert(clips.items().len(), found.clip)?;
@@ -86,7 +89,8 @@ pub(crate) fn clips_by_track<A: Allocator + Clone>(
     Ok(table)
 }
 
-// The clips of a track in order: by position, then by the stamp that gave their place; none where none are noted.
+// The clips of a track in order: by position, then by the stamp that gave their place; none where
+// none are noted.
 pub(crate) fn sorted_clips<A: Allocator + Clone>(
     alloc: &A,
     clips: Option<List<ClipView, A>>,

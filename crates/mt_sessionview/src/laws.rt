@@ -11,18 +11,20 @@ ghost use Rattle.mt_stamp.specs.Sorting.{Sorts};
 use crate::session::{ClipView, MarkerView, Session, TrackView};
 use std::alloc::Allocator;
 
-/// The markers of a session rise by position and stamp, and sorting them neither loses nor makes one.
+/// The markers of a session rise by position and stamp, and sorting them neither loses nor makes
+/// one.
 pub fn sorted_markers()
     ensures { Sorts marker_cmp }
 {}
 
-/// The clips of a track rise by position and by the stamp that gave their place, and sorting them neither loses nor makes
-/// one.
+/// The clips of a track rise by position and by the stamp that gave their place, and sorting them
+/// neither loses nor makes one.
 pub fn sorted_clips()
     ensures { Sorts clip_cmp }
 {}
 
-/// The tracks of a session are in the order of their places, and sorting them neither loses nor makes one.
+/// The tracks of a session are in the order of their places, and sorting them neither loses nor
+/// makes one.
 pub fn sorted_tracks()
     ensures { (ops : List Op) → Sorts (track_cmp ops) }
 {}
@@ -32,13 +34,14 @@ pub fn sorted_stamps()
     ensures { Sorts stamp_cmp }
 {}
 
-/// Two listings of the same operations give one session, where no two different operations have one stamp.
+/// Two listings of the same operations give one session, where no two different operations have one
+/// stamp.
 pub fn any_listing()
     ensures { AnyListing }
 {}
 
-/// Where every operation names older ones, as each `Op` does, one more that is held changes nothing but the number held:
-/// the tracks and the markers stay.
+/// Where every operation names older ones, as each `Op` does, one more that is held changes nothing
+/// but the number held: the tracks and the markers stay.
 pub fn held_operation()
     ensures { HeldIsCounted }
 {}
@@ -69,7 +72,8 @@ pub fn equal_tracks<A: Allocator>(track: &TrackView<A>, other: &TrackView<A>) ->
     track == other
 }
 
-/// Sessions are equal where they have the same tracks and markers, and hold the same number of operations.
+/// Sessions are equal where they have the same tracks and markers, and hold the same number of
+/// operations.
 pub fn equal_sessions<A: Allocator>(session: &Session<A>, other: &Session<A>) -> bool
     ensures { IsTrue result ↔ (session.now ≡ other.now) }
 {

@@ -1,7 +1,8 @@
-//! The session of a set of operations: the tracks that are present in the order of their places, each with its clips, the
-//! markers, and the number of operations held.
+//! The session of a set of operations: the tracks that are present in the order of their places,
+//! each with its clips, the markers, and the number of operations held.
 //!
-//! `from_scratch` makes the session of a log, in whatever order its operations came, and `write_text` writes it as text:
+//! `from_scratch` makes the session of a log, in whatever order its operations came, and
+//! `write_text` writes it as text:
 //!
 //! ```rust
 //! use mt_op::{Body, Op, Title};
@@ -27,14 +28,17 @@
 //! }
 //! ```
 //!
-//! `ready_stamps` gives the stamps of those operations of a log that its session shows, rising: all but the held ones. `session_of_ready` makes the
-//! session of ready operations that were noted already (`Items` of session_state), as an editor does for a whole log.
+//! `ready_stamps` gives the stamps of those operations of a log that its session shows, rising: all
+//! but the held ones. `session_of_ready` makes the session of ready operations that were noted
+//! already (`Items` of session_state), as an editor does for a whole log.
 //!
-//! A session is changed one entry at a time by twelve calls, each of which says what the whole session is then. `put_marker`,
-//! `put_clip` and `put_track` put an entry in, which must not be there yet; they alone take memory, and where that is refused
-//! the session is unchanged. `take_marker`, `take_clip` and `take_track` take one out and give it back; `set_marker`,
-//! `set_clip`, `set_track` and `move_track` rewrite or move one that is there, and `set_held` sets the number held;
-//! `index_of_track` tells at which index a track stands. A marker that is not in the session yet:
+//! A session is changed one entry at a time by twelve calls, each of which says what the whole
+//! session is then. `put_marker`, `put_clip` and `put_track` put an entry in, which must not be
+//! there yet; they alone take memory, and where that is refused the session is unchanged.
+//! `take_marker`, `take_clip` and `take_track` take one out and give it back; `set_marker`,
+//! `set_clip`, `set_track` and `move_track` rewrite or move one that is there, and `set_held` sets
+//! the number held; `index_of_track` tells at which index a track stands. A marker that is not in
+//! the session yet:
 //!
 //! ```rust
 //! use mt_op::Title;

@@ -20,7 +20,8 @@ fn marker_at<A: Allocator + Clone>(
     marker: Stamp,
     cells: &MarkerCells<A>,
 ) -> Result<Option<MarkerView<A>>, AllocError>
-    ensures ok { IfOk result (λ view. (ops : List Op) → HoldsMarker marker ops cells.now → view ≡ marker_read ops marker) }
+    ensures ok { IfOk result (λ view. (ops : List Op) → HoldsMarker marker ops cells.now → view
+        ≡ marker_read ops marker) }
 {
     if !cells.presence.is_present() {
         return Ok(None);
@@ -41,7 +42,8 @@ pub(crate) fn markers<A: Allocator + Clone>(
     alloc: A,
     items: &ItemStates<A>,
 ) -> Result<Vec<MarkerView<A>, A>, AllocError>
-    ensures ok { IfOk result (λ markers. markers.items ≡ filter_map (marker_read items.now) (items_of Marker items.now)) }
+    ensures ok { IfOk result (λ markers. markers.items
+        ≡ filter_map (marker_read items.now) (items_of Marker items.now)) }
 {
     let cells = items.marker_cells();
     let mut markers = Vec::with_capacity(alloc, cells.len())?;
@@ -79,7 +81,9 @@ pub(crate) fn taken_markers<A: Allocator + Clone>(
     alloc: A,
     cells: Vec<(Stamp, MarkerCells<A>), A>,
 ) -> Result<Vec<MarkerView<A>, A>, AllocError>
-    ensures ok { IfOk result (λ markers. (ops : List Op) → AllByRecursion (λ e. HoldsMarker e.0 ops e.1) cells.items → markers.items ≡ filter_map (marker_read ops) (keys_of cells.items)) }
+    ensures ok { IfOk result (λ markers. (ops : List Op)
+        → AllByRecursion (λ e. HoldsMarker e.0 ops e.1) cells.items → markers.items
+        ≡ filter_map (marker_read ops) (keys_of cells.items)) }
 {
     let mut markers = Vec::with_capacity(alloc, cells.len())?;
     for (marker, cells) in cells {

@@ -19,7 +19,8 @@ fn ops_at<'a, A: Allocator, B: Allocator>(
     order: &[usize],
 ) -> Result<Vec<&'a Op<A>, B>, AllocError>
     requires below { (k p : ℕ) → slice_get order.now k ≡ Some p → p < length ops.now }
-    ensures { IfOk result (λ those. map (λ o. o.now) those.items ≡ ops_at (map (λ o. o.now) ops.now) order.now) }
+    ensures { IfOk result (λ those. map (λ o. o.now) those.items
+        ≡ ops_at (map (λ o. o.now) ops.now) order.now) }
 {
     let mut those = Vec::with_capacity(alloc, order.len())?;
     for index in order {
@@ -35,7 +36,8 @@ pub(crate) fn placed_ops<'a, A: Allocator + Clone>(
 ) -> Result<Vec<&'a Op<A>, A>, AllocError>
     requires rising { RisesStrictly op_cmp (map (λ o. o.now) ops.now) }
     requires tree { IsTree (places_in (map (λ o. o.now) ops.now)) }
-    ensures ok { IfOk result (λ placed. map (λ o. o.now) placed.items ≡ placed_in (map (λ o. o.now) ops.now)) }
+    ensures ok { IfOk result (λ placed. map (λ o. o.now) placed.items
+        ≡ placed_in (map (λ o. o.now) ops.now)) }
 {
     let ops = place_ops(alloc, ops)?;
     let places = places_of(alloc.clone()?, &ops)?;

@@ -18,7 +18,8 @@ pub(crate) fn place_ops<'a, A: Allocator + Clone>(
     alloc: &A,
     ops: &[&'a Op<A>],
 ) -> Result<Vec<&'a Op<A>, A>, AllocError>
-    ensures ok { IfOk result (λ places. map (λ o. o.now) places.items ≡ filter (fits Place) (map (λ o. o.now) ops.now)) }
+    ensures ok { IfOk result (λ places. map (λ o. o.now) places.items
+        ≡ filter (fits Place) (map (λ o. o.now) ops.now)) }
 {
     let mut places = Vec::with_capacity(alloc.clone()?, ops.len())?;
     for op in ops {
@@ -39,8 +40,9 @@ fn after<A: Allocator>(op: &Op<A>) -> Option<Stamp>
     }
 }
 
-/// The element that an operation gives a list of places, where it gives a track a place: an AddTrack to the track that it adds, a
-/// MoveTrack to the one that it moves. Of any other it is its own stamp at the head.
+/// The element that an operation gives a list of places, where it gives a track a place: an
+/// AddTrack to the track that it adds, a MoveTrack to the one that it moves. Of any other it is its
+/// own stamp at the head.
 pub fn place_of_op<A: Allocator>(op: &Op<A>) -> Placed
     ensures { result ≡ place_of_op op.now }
 {
@@ -57,7 +59,8 @@ pub(crate) fn places_of<A: Allocator, B: Allocator>(
     alloc: B,
     ops: &[&Op<A>],
 ) -> Result<Vec<PlaceAfter, B>, AllocError>
-    ensures { IfOk result (λ places. given_tree places.items ≡ map tree_place (map (λ o. o.now) ops.now)) }
+    ensures { IfOk result (λ places. given_tree places.items
+        ≡ map tree_place (map (λ o. o.now) ops.now)) }
 {
     let mut places = Vec::with_capacity(alloc, ops.len())?;
     for op in ops {

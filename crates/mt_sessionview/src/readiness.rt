@@ -13,13 +13,15 @@ use mt_opcodec::Log;
 use mt_stamp::Stamp;
 use std::alloc::Allocator;
 
-/// The stamps of a log's ready operations, rising: those that a session shows, and none that is held. In a time of n log n
-/// for n operations and the tags that they list. Refused only as `Memory` (0).
+/// The stamps of a log's ready operations, rising: those that a session shows, and none that is
+/// held. In a time of n log n for n operations and the tags that they list. Refused only as
+/// `Memory` (0).
 pub fn ready_stamps<A: Allocator + Clone>(
     alloc: A,
     log: &Log<A>,
 ) -> Result<Vec<Stamp, A>, SessionFault>
-    ensures ok { IfOk result (λ stamps. stamps.items ≡ sort_by stamp_cmp (stamps_of (ready_ops (operations log.now)))) }
+    ensures ok { IfOk result (λ stamps. stamps.items ≡ sort_by stamp_cmp
+        (stamps_of (ready_ops (operations log.now)))) }
     ensures err { IfErr result (λ fault. fault ≡ SessionFault.Memory) }
 {
     // for the proof: that the dots of a log's operations differ

@@ -17,15 +17,18 @@ pub(crate) struct Ready<'a, A: Allocator> {
     pub items: ItemStates<A>,
 }
 
-// The ready ones of these operations, which rise by stamp. Each is looked at once: it is ready where those before it that are
-// ready meet its needs. The ready ones take the places of those before them that are not.
+// The ready ones of these operations, which rise by stamp. Each is looked at once: it is ready
+// where those before it that are ready meet its needs. The ready ones take the places of those
+// before them that are not.
 pub(crate) fn ready_of<'a, A: Allocator + Clone>(
     alloc: &A,
     ops: Vec<&'a Op<A>, A>,
 ) -> Result<Ready<'a, A>, AllocError>
     requires rising { RisesStrictly op_cmp (map (λ o. o.now) ops.items) }
-    ensures ops { IfOk result (λ ready. map (λ o. o.now) ready.ops.items ≡ ready_ops (map (λ o. o.now) ops.entry.items)) }
-    ensures items { IfOk result (λ ready. ready.items ≡ reverse (ready_ops (map (λ o. o.now) ops.entry.items))) }
+    ensures ops { IfOk result (λ ready. map (λ o. o.now) ready.ops.items
+        ≡ ready_ops (map (λ o. o.now) ops.entry.items)) }
+    ensures items { IfOk result (λ ready. ready.items ≡ reverse
+        (ready_ops (map (λ o. o.now) ops.entry.items))) }
     ensures applied { IfOk result (λ ready. AreApplied ready.items) }
 {
     let mut sifted = ops;

@@ -15,8 +15,8 @@ use mt_opcodec::{BufferedLatch, Latch, Log};
 use std::alloc::{AllocError, Allocator};
 use std::io::Write;
 
-/// The session of a log's operations, in a time of n log n for n of them and of the tags that they list. Refused only
-/// as `Memory` (0).
+/// The session of a log's operations, in a time of n log n for n of them and of the tags that they
+/// list. Refused only as `Memory` (0).
 pub fn from_scratch<A: Allocator + Clone>(
     alloc: A,
     log: &Log<A>,
@@ -28,8 +28,8 @@ pub fn from_scratch<A: Allocator + Clone>(
     Ok(session_of_parts(alloc, parts)?)
 }
 
-/// The same of a log by value, which is let go before the session's markers are made: so it takes less memory. Refused
-/// only as `AllocError`.
+/// The same of a log by value, which is let go before the session's markers are made: so it takes
+/// less memory. Refused only as `AllocError`.
 pub fn of_log<A: Allocator + Clone>(alloc: A, log: Log<A>) -> Result<Session<A>, AllocError>
     ensures ok { IfOk result (λ session. session ≡ session_of (operations log)) }
 {
@@ -38,20 +38,24 @@ pub fn of_log<A: Allocator + Clone>(alloc: A, log: Log<A>) -> Result<Session<A>,
     session_of_parts(alloc, parts)
 }
 
-/// Writes a session's text: a line for each track, followed by one for each of its clips, a line for each marker, all
-/// in order, then `held N`, each ended by a line feed. It is handed over in pieces as it is made, and takes no memory.
+/// Writes a session's text: a line for each track, followed by one for each of its clips, a line
+/// for each marker, all in order, then `held N`, each ended by a line feed. It is handed over in
+/// pieces as it is made, and takes no memory.
 ///
-/// Refused only as `Write` (37), where the output's latch has failed, before or in this call; the output then holds a prefix of
-/// the text, and is as it was where the latch had failed before.
+/// Refused only as `Write` (37), where the output's latch has failed, before or in this call; the
+/// output then holds a prefix of the text, and is as it was where the latch had failed before.
 #[tactic(auto, unfolding(base_io::specs::Buffered::Puts))]
 pub fn write_text<A: Allocator, W: Write>(
     session: &Session<A>,
     output: &mut Latch<W>,
 ) -> Result<(), SessionFault>
-    ensures whole { OnOk result (Appends (W.contents output.old.inner) (W.contents output.new.inner) (session_text session.now)) }
-    ensures prefix { AppendsPrefix (W.contents output.old.inner) (W.contents output.new.inner) (session_text session.now) }
+    ensures whole { OnOk result (Appends (W.contents output.old.inner) (W.contents output.new.inner)
+        (session_text session.now)) }
+    ensures prefix { AppendsPrefix (W.contents output.old.inner) (W.contents output.new.inner)
+        (session_text session.now) }
     ensures sound { OnOk result (output.new.failed ≡ false) }
-    ensures err { IfErr result (λ fault. (fault ≡ SessionFault.Write) × (output.new.failed ≡ true)) }
+    ensures err { IfErr result (λ fault. (fault ≡ SessionFault.Write) × (output.new.failed ≡ true))
+        }
     ensures stays_failed { output.old.failed ≡ true → output.new ≡ output.old }
 {
     let mut lines = BufferedLatch::new(output);

@@ -5,7 +5,8 @@ use mt_stamp::{List, Stamp};
 use std::alloc::{Allocator, Global};
 use std::marker::Model;
 
-/// A clip that is present, on a track that is. Its length is at least 1, and its fades are at most 1,048,576 frames.
+/// A clip that is present, on a track that is. Its length is at least 1, and its fades are at most
+/// 1,048,576 frames.
 #[derive(Clone, Copy, Debug, PartialEq, Eq)]
 pub struct ClipView {
     /// The stamp of the operation that added it, which names it.
@@ -22,7 +23,8 @@ pub struct ClipView {
     pub gain: Gain,
     /// Whether it is muted.
     pub mute: bool,
-    /// Over how many of its first frames it fades in, at most 1,048,576; 0 for no fade. It may be more than it plays.
+    /// Over how many of its first frames it fades in, at most 1,048,576; 0 for no fade. It may be
+    /// more than it plays.
     pub fade_in: u32,
     /// Over how many of its last frames it fades out, as `fade_in`.
     pub fade_out: u32,
@@ -35,11 +37,14 @@ impl Model for ClipView {
 
     ghost Value = { Clip };
 
-    ghost view = { λ c. record { clip = c.clip; place = c.place; at = c.at; offset = c.offset; len = c.len; gain = c.gain; mute = c.mute; fade_in = c.fade_in; fade_out = c.fade_out; source = c.source } };
+    ghost view = { λ c. record { clip = c.clip; place = c.place; at = c.at; offset = c.offset; len =
+        c.len; gain = c.gain; mute = c.mute; fade_in = c.fade_in; fade_out = c.fade_out; source = c.source } };
 
-    ghost invariant = { λ c. IsClip (record { clip = c.clip; place = c.place; at = c.at; offset = c.offset; len = c.len; gain = c.gain; mute = c.mute; fade_in = c.fade_in; fade_out = c.fade_out; source = c.source }) };
+    ghost invariant = { λ c. IsClip (record { clip = c.clip; place = c.place; at = c.at; offset =
+        c.offset; len = c.len; gain = c.gain; mute = c.mute; fade_in = c.fade_in; fade_out = c.fade_out; source = c.source }) };
 
-    ghost inverse = { λ c. record { clip = c.clip; place = c.place; at = c.at; offset = c.offset; len = c.len; gain = c.gain; mute = c.mute; fade_in = c.fade_in; fade_out = c.fade_out; source = c.source } };
+    ghost inverse = { λ c. record { clip = c.clip; place = c.place; at = c.at; offset = c.offset;
+        len = c.len; gain = c.gain; mute = c.mute; fade_in = c.fade_in; fade_out = c.fade_out; source = c.source } };
 }
 
 /// A track that is present. Its clips are in order, and no two of them have the same place.
@@ -63,11 +68,14 @@ impl<A: Allocator> Model for TrackView<A> {
 
     ghost Value = { Track };
 
-    ghost view = { λ t. record { track = t.track; title = t.title; gain = t.gain; mute = t.mute; clips = t.clips } };
+    ghost view = { λ t. record { track = t.track; title = t.title; gain = t.gain; mute = t.mute;
+        clips = t.clips } };
 
-    ghost invariant = { λ t. IsTrack (record { track = t.track; title = t.title; gain = t.gain; mute = t.mute; clips = t.clips }) };
+    ghost invariant = { λ t. IsTrack (record { track = t.track; title = t.title; gain = t.gain; mute
+        = t.mute; clips = t.clips }) };
 
-    ghost inverse = { λ t. record { track = t.track; title = t.title; gain = t.gain; mute = t.mute; clips = t.clips } };
+    ghost inverse = { λ t. record { track = t.track; title = t.title; gain = t.gain; mute = t.mute;
+        clips = t.clips } };
 }
 
 /// A marker that is present.
@@ -102,7 +110,8 @@ pub struct Session<A: Allocator = Global> {
     pub tracks: List<TrackView<A>, A>,
     /// The markers that are present, by position and then by stamp.
     pub markers: List<MarkerView<A>, A>,
-    /// How many operations are held: kept, merged and counted, and without effect until what they need is there.
+    /// How many operations are held: kept, merged and counted, and without effect until what they
+    /// need is there.
     pub held: u64,
 }
 
@@ -113,7 +122,8 @@ impl<A: Allocator> Model for Session<A> {
 
     ghost view = { λ s. record { tracks = s.tracks; markers = s.markers; held = s.held } };
 
-    ghost invariant = { λ s. IsSession (record { tracks = s.tracks; markers = s.markers; held = s.held }) };
+    ghost invariant = { λ s. IsSession (record { tracks = s.tracks; markers = s.markers; held =
+        s.held }) };
 
     ghost inverse = { λ c. record { tracks = c.tracks; markers = c.markers; held = c.held } };
 }

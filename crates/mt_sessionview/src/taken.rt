@@ -1,6 +1,7 @@
 //! Tracks of items that are let go, with the titles that their cells held.
 
-ghost use Rattle.std.specs.Prelude.{◌≡◌, ◌≢◌, ℕ, true, List as ListOf, Some, is_some, map, IfOk, OnOk, IfSome};
+ghost use Rattle.std.specs.Prelude.{◌≡◌, ◌≢◌, ℕ, true, List as ListOf, Some, is_some, map, IfOk};
+ghost use Rattle.std.specs.Prelude.{OnOk, IfSome};
 ghost use Rattle.std.specs.List.{AllByRecursion, filter_map, sum_by};
 ghost use Rattle.std.specs.Map.{keys_of, lookup};
 ghost use Rattle.mt_stamp.specs.StampOrder.{Stamp, stamp_eq};
@@ -28,7 +29,8 @@ use std::alloc::{AllocError, Allocator};
 
 // The present track that stands where an operation put it, from the cells of all tracks.
 fn standing_track<A: Allocator>(tracks: &StampMap<TrackCells<A>, A>, op: &Op<A>) -> Option<Stamp>
-    ensures standing { (ops : ListOf Op) → AreApplied ops → HoldStands ops tracks.now → result ≡ standing ops op.now }
+    ensures standing { (ops : ListOf Op) → AreApplied ops → HoldStands ops tracks.now → result
+        ≡ standing ops op.now }
     ensures there { IfSome result (λ track. is_some (lookup (stamp_eq track) tracks.now) ≡ true) }
 {
     let track = placed_track(op)?;
@@ -48,9 +50,13 @@ fn taken_track<A: Allocator + Clone>(
 ) -> Result<TrackView<A>, AllocError>
     requires there { is_some (lookup (stamp_eq track) tracks.old) ≡ true }
     requires clips { AreClips clips.items }
-    ensures ok { IfOk result (λ view. IfSome (lookup (stamp_eq track) tracks.old) (λ cells. (ops : ListOf Op) → HoldsTrack track ops cells → Some view ≡ track_from ops track clips.items (last_write title_written track ops))) }
-    ensures stand { OnOk result ((ops : ListOf Op) → HoldStands ops tracks.old → HoldStands ops tracks.new) }
-    ensures others { OnOk result ((other : Stamp) → track ≢ other → lookup (stamp_eq other) tracks.new ≡ lookup (stamp_eq other) tracks.old) }
+    ensures ok { IfOk result (λ view. IfSome (lookup (stamp_eq track) tracks.old)
+        (λ cells. (ops : ListOf Op) → HoldsTrack track ops cells → Some view
+        ≡ track_from ops track clips.items (last_write title_written track ops))) }
+    ensures stand { OnOk result ((ops : ListOf Op) → HoldStands ops tracks.old
+        → HoldStands ops tracks.new) }
+    ensures others { OnOk result ((other : Stamp) → track ≢ other
+        → lookup (stamp_eq other) tracks.new ≡ lookup (stamp_eq other) tracks.old) }
 {
     let Some(cells) = tracks.get_mut(track) else {
         unreachable!()
@@ -59,8 +65,9 @@ fn taken_track<A: Allocator + Clone>(
     Ok(track_with(track, cells, title, clips))
 }
 
-// The present tracks with their clips, in the order of the operations that put them where they stand, with the titles that their
-// cells held; beside them the cells of the markers. All else of the items is let go.
+// The present tracks with their clips, in the order of the operations that put them where they
+// stand, with the titles that their cells held; beside them the cells of the markers. All else of
+// the items is let go.
 fn tracks_in_order<A: Allocator + Clone>(
     alloc: &A,
     items: ItemStates<A>,
@@ -68,9 +75,11 @@ fn tracks_in_order<A: Allocator + Clone>(
 ) -> Result<(Vec<TrackView<A>, A>, Vec<(Stamp, MarkerCells<A>), A>), AllocError>
     requires applied { AreApplied items }
     requires differ { DifferBy stamp_of (map (λ o. o.now) ops.now) }
-    ensures tracks { IfOk result (λ both. both.0.items ≡ filter_map (track_read items) (map (λ o. o.now) ops.now)) }
+    ensures tracks { IfOk result (λ both. both.0.items
+        ≡ filter_map (track_read items) (map (λ o. o.now) ops.now)) }
     ensures markers { IfOk result (λ both. keys_of both.1.items ≡ items_of Marker items) }
-    ensures each_marker { IfOk result (λ both. AllByRecursion (λ e. HoldsMarker e.0 items e.1) both.1.items) }
+    ensures each_marker { IfOk result (λ both. AllByRecursion (λ e. HoldsMarker e.0 items e.1)
+        both.1.items) }
 {
     let mut clips = clips_by_track(alloc, &items)?;
     let (mut cells, markers) = items.into_tracks_and_markers();
@@ -84,8 +93,8 @@ fn tracks_in_order<A: Allocator + Clone>(
     Ok((tracks, markers))
 }
 
-// The tracks that ready operations show, in the order of their places, from the items that these leave, which are let go; beside
-// them the cells of the markers.
+// The tracks that ready operations show, in the order of their places, from the items that these
+// leave, which are let go; beside them the cells of the markers.
 pub(crate) fn taken_tracks<A: Allocator + Clone>(
     alloc: &A,
     ready: &[&Op<A>],
@@ -97,7 +106,8 @@ pub(crate) fn taken_tracks<A: Allocator + Clone>(
     requires tree { IsTree (places_in (map (λ o. o.now) ready.now)) }
     ensures tracks { IfOk result (λ both. both.0.items ≡ tracks_in items) }
     ensures markers { IfOk result (λ both. keys_of both.1.items ≡ items_of Marker items) }
-    ensures each_marker { IfOk result (λ both. AllByRecursion (λ e. HoldsMarker e.0 items e.1) both.1.items) }
+    ensures each_marker { IfOk result (λ both. AllByRecursion (λ e. HoldsMarker e.0 items e.1)
+        both.1.items) }
 {
     let placed = placed_ops(alloc, ready)?;
     tracks_in_order(alloc, items, &placed)

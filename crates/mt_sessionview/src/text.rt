@@ -7,7 +7,9 @@ ghost use Rattle.mt_stamp.specs.Texts.{replica_text, stamp_text};
 ghost use Rattle.mt_op.specs.Digest.{digest_text};
 ghost use Rattle.base_io.specs.Buffered.{Puts};
 ghost use Rattle.mt_sessionview.specs.SessionValue.{Clip};
-ghost use Rattle.mt_sessionview.specs.SessionText.{newline, sound_text, fade_text, len_text, clip_line, track_line, track_lines, marker_line, held_line, session_text};
+ghost use Rattle.mt_sessionview.specs.SessionText.{newline, sound_text, fade_text, len_text};
+ghost use Rattle.mt_sessionview.specs.SessionText.{clip_line, track_line, track_lines, marker_line};
+ghost use Rattle.mt_sessionview.specs.SessionText.{held_line, session_text};
 
 use crate::session::{ClipView, MarkerView, Session, TrackView};
 use mt_op::{Digest, Gain};
@@ -48,7 +50,8 @@ fn put_number<W: Write>(output: &mut BufferedLatch<'_, W>, label: &str, number: 
 
 // Puts ` mute on` or ` mute off`.
 fn put_mute<W: Write>(output: &mut BufferedLatch<'_, W>, mute: bool)
-    ensures { Puts W.contents output.old output.new (if mute then codes " mute on" else codes " mute off") }
+    ensures { Puts W.contents output.old output.new (if mute then codes " mute on" else codes
+        " mute off") }
 {
     if mute {
         output.put(b" mute on");
@@ -105,8 +108,8 @@ fn put_digest<W: Write>(output: &mut BufferedLatch<'_, W>, digest: Digest)
     output.put(b"\n");
 }
 
-// Puts `clip STAMP place STAMP at N offset N len N gain NUM/DEN mute on|off source DIGEST` and a line feed, with the fades before
-// the source: positions and lengths in frames, in decimal.
+// Puts `clip STAMP place STAMP at N offset N len N gain NUM/DEN mute on|off source DIGEST` and a
+// line feed, with the fades before the source: positions and lengths in frames, in decimal.
 fn put_clip_line<W: Write>(output: &mut BufferedLatch<'_, W>, view: &ClipView)
     ensures { Puts W.contents output.old output.new (clip_line view.now) }
 {
@@ -124,7 +127,8 @@ fn put_clip_line<W: Write>(output: &mut BufferedLatch<'_, W>, view: &ClipView)
 // Puts ` title TITLE` and a line feed, the title as it is.
 #[tactic(auto, using(base_io::proofs::Putting::then_puts))]
 fn put_title<W: Write>(output: &mut BufferedLatch<'_, W>, title: &str)
-    ensures { Puts W.contents output.old output.new (codes " title " ++ (title.now ++ newline ∷ [])) }
+    ensures { Puts W.contents output.old output.new (codes " title " ++ (title.now ++ newline ∷ []))
+        }
 {
     output.put(b" title ");
     output.put(title.as_bytes());
@@ -139,7 +143,8 @@ fn put_track_line<W: Write>(
     mute: bool,
     title: &str,
 )
-    ensures { (clips : List Clip) → Puts W.contents output.old output.new (track_line (record { track = track; title = title.now; gain = gain; mute = mute; clips = clips })) }
+    ensures { (clips : List Clip) → Puts W.contents output.old output.new
+        (track_line (record { track = track; title = title.now; gain = gain; mute = mute; clips = clips })) }
 {
     put_stamp(output, "track ", track);
     put_sound(output, gain, mute);
@@ -172,7 +177,8 @@ fn put_parts<W: Write>(
     len: u32,
     title: &str,
 )
-    ensures { Puts W.contents output.old output.new (marker_line (record { marker = marker; at = at; len = len; title = title.now })) }
+    ensures { Puts W.contents output.old output.new (marker_line
+        (record { marker = marker; at = at; len = len; title = title.now })) }
 {
     put_stamp(output, "marker ", marker);
     put_number(output, " at ", at);
@@ -180,8 +186,8 @@ fn put_parts<W: Write>(
     put_title(output, title);
 }
 
-// Puts `marker STAMP at N title TITLE` and a line feed, with the length after the position: both in frames, in decimal, and the
-// title as it is.
+// Puts `marker STAMP at N title TITLE` and a line feed, with the length after the position: both in
+// frames, in decimal, and the title as it is.
 fn put_marker_line<A: Allocator, W: Write>(output: &mut BufferedLatch<'_, W>, view: &MarkerView<A>)
     ensures { Puts W.contents output.old output.new (marker_line view.now) }
 {
@@ -210,8 +216,9 @@ fn put_tracks<A: Allocator, W: Write>(output: &mut BufferedLatch<'_, W>, tracks:
 // At how many titles `prefetch` looks.
 const PREFETCH_DISTANCE: usize = 16;
 
-// Looks at the titles of the next markers, and tells for how many of these that will do: not for those whose title begins with NUL. Titles lie far apart in the memory
-// of a great session, so that each look at one waits for it; whoever looks at several waits for all of them together.
+// Looks at the titles of the next markers, and tells for how many of these that will do: not for
+// those whose title begins with NUL. Titles lie far apart in the memory of a great session, so that
+// each look at one waits for it; whoever looks at several waits for all of them together.
 fn prefetch<A: Allocator>(next: &[MarkerView<A>]) -> usize {
     let mut begun: usize = 0;
     for place in 0..PREFETCH_DISTANCE.min(next.len()) {
@@ -239,8 +246,8 @@ fn put_markers<A: Allocator, W: Write>(output: &mut BufferedLatch<'_, W>, marker
     }
 }
 
-/// Puts a session: a line for each track, followed by one for each of its clips, a line for each marker, all in order, then
-/// `held N`. Each line ends with a line feed.
+/// Puts a session: a line for each track, followed by one for each of its clips, a line for each
+/// marker, all in order, then `held N`. Each line ends with a line feed.
 pub(crate) fn put_session<A: Allocator, W: Write>(
     output: &mut BufferedLatch<'_, W>,
     session: &Session<A>,

@@ -1,6 +1,7 @@
 //! Tracks.
 
-ghost use Rattle.std.specs.Prelude.{◌≡◌, ◌≢◌, List as ListOf, Some, None, map, IfOk, OnOk, IfSome, IfNone};
+ghost use Rattle.std.specs.Prelude.{◌≡◌, ◌≢◌, List as ListOf, Some, None, map, IfOk, OnOk, IfSome};
+ghost use Rattle.std.specs.Prelude.{IfNone};
 ghost use Rattle.std.specs.BTreeMap.{get};
 ghost use Rattle.std.specs.List.{filter_map};
 ghost use Rattle.mt_stamp.specs.StampOrder.{Stamp, stamp_cmp};
@@ -13,7 +14,8 @@ ghost use Rattle.session_state.specs.Fields.{HoldsLast};
 ghost use Rattle.session_state.specs.Applying.{AreApplied};
 ghost use Rattle.session_state.specs.Tags.{HoldsTags};
 ghost use Rattle.mt_sessionview.specs.SessionValue.{AreClips};
-ghost use Rattle.mt_sessionview.specs.Read.{placed_track, stands_at, standing, track_from, HasClips, AreTheClips, track_read};
+ghost use Rattle.mt_sessionview.specs.Read.{placed_track, stands_at, standing, track_from};
+ghost use Rattle.mt_sessionview.specs.Read.{HasClips, AreTheClips, track_read};
 
 use crate::clip::sorted_clips;
 use crate::session::{ClipView, TrackView};
@@ -49,7 +51,8 @@ pub(crate) fn track_with<A: Allocator>(
     clips: Vec<ClipView, A>,
 ) -> TrackView<A>
     requires clips { AreClips clips.items }
-    ensures { result ≡ record { track = track; title = title; gain = cells.now.gain.value; mute = cells.now.mute.value; clips = clips.items } }
+    ensures { result ≡ record { track = track; title = title; gain = cells.now.gain.value; mute =
+        cells.now.mute.value; clips = clips.items } }
 {
     TrackView {
         track,
@@ -67,7 +70,8 @@ fn track_from<A: Allocator + Clone>(
     clips: Vec<ClipView, A>,
 ) -> Result<TrackView<A>, AllocError>
     requires clips { AreClips clips.items }
-    ensures ok { IfOk result (λ view. (ops : ListOf Op) → HoldsTrack track ops cells.now → Some view ≡ track_from ops track clips.items (last_write title_written track ops)) }
+    ensures ok { IfOk result (λ view. (ops : ListOf Op) → HoldsTrack track ops cells.now → Some view
+        ≡ track_from ops track clips.items (last_write title_written track ops)) }
 {
     let Ok(title) = cells.title.get().try_clone() else {
         return Err(AllocError);
@@ -77,7 +81,8 @@ fn track_from<A: Allocator + Clone>(
 
 // Whether a track is present and stands at a place, from its cells.
 pub(crate) fn stands_at<A: Allocator>(track: Stamp, cells: &TrackCells<A>, place: Stamp) -> bool
-    ensures { (ops : ListOf Op) → HoldsLast track_place_written track ops cells.now.place → HoldsTags track ops cells.now.presence → result ≡ stands_at ops track place }
+    ensures { (ops : ListOf Op) → HoldsLast track_place_written track ops cells.now.place
+        → HoldsTags track ops cells.now.presence → result ≡ stands_at ops track place }
 {
     cells.place.stamp() == place && cells.presence.is_present()
 }
@@ -86,7 +91,8 @@ pub(crate) fn stands_at<A: Allocator>(track: Stamp, cells: &TrackCells<A>, place
 fn standing<'a, A: Allocator>(items: &'a ItemStates<A>, op: &Op<A>) -> Option<TrackHere<'a, A>>
     requires applied { AreApplied items.now }
     ensures none { IfNone result (standing items.now op.now ≡ None) }
-    ensures some { IfSome result (λ s. standing items.now op.now ≡ Some s.track × HoldsTrack s.track items.now s.cells.now) }
+    ensures some { IfSome result (λ s. standing items.now op.now ≡ Some s.track
+        × HoldsTrack s.track items.now s.cells.now) }
 {
     let track = placed_track(op)?;
     let cells = items.track_cells(track)?;
@@ -96,7 +102,8 @@ fn standing<'a, A: Allocator>(items: &'a ItemStates<A>, op: &Op<A>) -> Option<Tr
     Some(TrackHere { track, cells })
 }
 
-// The present track that stands where an operation put it, with its clips, which are taken out of those of all tracks.
+// The present track that stands where an operation put it, with its clips, which are taken out of
+// those of all tracks.
 fn track_at<A: Allocator + Clone>(
     alloc: &A,
     items: &ItemStates<A>,
@@ -106,7 +113,8 @@ fn track_at<A: Allocator + Clone>(
     requires applied { AreApplied items.now }
     requires clips { IfSome (standing items.now op.now) (HasClips items.now clips.old) }
     ensures ok { IfOk result (λ view. view ≡ track_read items.now op.now) }
-    ensures others { OnOk result ((track : Stamp) → standing items.now op.now ≢ Some track → get stamp_cmp clips.new track ≡ get stamp_cmp clips.old track) }
+    ensures others { OnOk result ((track : Stamp) → standing items.now op.now ≢ Some track
+        → get stamp_cmp clips.new track ≡ get stamp_cmp clips.old track) }
 {
     let Some(here) = standing(items, op) else {
         return Ok(None);
@@ -115,7 +123,8 @@ fn track_at<A: Allocator + Clone>(
     Ok(Some(track_from(here.track, here.cells, sorted)?))
 }
 
-// The present tracks with their clips, in the order of the operations that put them where they stand.
+// The present tracks with their clips, in the order of the operations that put them where they
+// stand.
 pub(crate) fn tracks<A: Allocator + Clone>(
     alloc: &A,
     items: &ItemStates<A>,
@@ -125,7 +134,8 @@ pub(crate) fn tracks<A: Allocator + Clone>(
     requires applied { AreApplied items.now }
     requires clips { AreTheClips items.now clips }
     requires differ { DifferBy stamp_of (map (λ o. o.now) ops.now) }
-    ensures ok { IfOk result (λ tracks. tracks.items ≡ filter_map (track_read items.now) (map (λ o. o.now) ops.now)) }
+    ensures ok { IfOk result (λ tracks. tracks.items ≡ filter_map (track_read items.now)
+        (map (λ o. o.now) ops.now)) }
 {
     let mut tracks = Vec::with_capacity(alloc.clone()?, ops.len())?;
     for op in ops {

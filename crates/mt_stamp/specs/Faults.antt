@@ -1,7 +1,8 @@
 -- The number of each refusal.
 use Rattle.std.specs.Prelude.{ℕ}
 use Rattle.mt_stamp.specs.declared.fault.StampFault.{StampFault}
-use Rattle.mt_stamp.specs.declared.fault.StampFault.TheVariants.{Memory, ZeroClock, ZeroSeq, TooGreat, BadText}
+use Rattle.mt_stamp.specs.declared.fault.StampFault.TheVariants.{Memory, ZeroClock, ZeroSeq}
+use Rattle.mt_stamp.specs.declared.fault.StampFault.TheVariants.{TooGreat, BadText}
 
 abbrev pub number_of : StampFault → ℕ
 number_of Memory = 0

@@ -5,4 +5,5 @@ use Rattle.mt_stamp.specs.StampOrder.{Stamp, stamp_cmp}
 pub stamps_total : IsTotalOrder stamp_cmp
 stamps_total =
     then_total (on_total (λ (m : Stamp). m.clock) nat_cmp_total)
-    (then_total (on_total (λ (m : Stamp). m.replica.0) nat_cmp_total) (on_total (λ (m : Stamp). m.seq) nat_cmp_total))
+    (then_total (on_total (λ (m : Stamp). m.replica.0) nat_cmp_total)
+        (on_total (λ (m : Stamp). m.seq) nat_cmp_total))

@@ -26,7 +26,8 @@ module _ {X : Type 0} (cmp : X → X → Ordering) where
   RisesStrictly [] = Unit {0}
   RisesStrictly (x ∷ xs) = AllByRecursion (λ y. cmp x y ≡ Less) xs × RisesStrictly xs
 
-  -- Sorting gives a rising list of the same items: whatever is counted of each item adds up to the same.
+  -- Sorting gives a rising list of the same items: whatever is counted of each item adds up to the
+  -- same.
   pub record Sorts : Type 0 where
     pub rises : (xs : List X) → Rises (sort_by xs)
     pub same : (f : X → ℕ) (xs : List X) → sum_by f (sort_by xs) ≡ sum_by f xs

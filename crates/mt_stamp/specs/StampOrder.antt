@@ -5,8 +5,8 @@ use Rattle.std.specs.declared.cmp.Ordering.{Ordering}
 use Rattle.mt_stamp.specs.declared.name.Replica.{Replica}
 use Rattle.mt_stamp.specs.declared.name.Dot.{Dot}
 
--- A stamp: a Lamport clock, the replica that made the operation, and how many it has made with this one
--- (timestamps that are unique and totally ordered: INRIA RR-7506, section 3.2.1).
+-- A stamp: a Lamport clock, the replica that made the operation, and how many it has made with this
+-- one (timestamps that are unique and totally ordered: INRIA RR-7506, section 3.2.1).
 pub record Stamp : Type 0 where
   pub clock : ℕ
   pub replica : Replica
@@ -35,7 +35,8 @@ dot_cmp a b = ordering_then (nat_cmp a.replica.0 b.replica.0) (nat_cmp a.seq b.s
 -- Stamps are ordered by clock, then by replica as a number of 128 bits, then by sequence number
 -- (Lamport's total order of events: Communications of the ACM 21, 1978).
 abbrev pub stamp_cmp : Stamp → Stamp → Ordering
-stamp_cmp a b = ordering_then (nat_cmp a.clock b.clock) (ordering_then (nat_cmp a.replica.0 b.replica.0) (nat_cmp a.seq b.seq))
+stamp_cmp a b = ordering_then (nat_cmp a.clock b.clock)
+    (ordering_then (nat_cmp a.replica.0 b.replica.0) (nat_cmp a.seq b.seq))
 
 -- whether two stamps are one
 abbrev pub stamp_eq : Stamp → Stamp → Bool

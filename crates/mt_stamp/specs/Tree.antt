@@ -1,12 +1,14 @@
--- The order of places in a tree, where each is added after an older one or at the head (an add-only partial order, and RGA
--- seen as a tree: INRIA RR-7506).
-use Rattle.std.specs.Prelude.{◌≡◌, ℕ, zero, suc, List, [], ◌∷◌, ◌++◌, length, map, cond, Option, Some, None, slice_get}
+-- The order of places in a tree, where each is added after an older one or at the head (an add-only
+-- partial order, and RGA seen as a tree: INRIA RR-7506).
+use Rattle.std.specs.Prelude.{◌≡◌, ℕ, zero, suc, List, [], ◌∷◌, ◌++◌, length, map, cond, Option}
+use Rattle.std.specs.Prelude.{Some, None, slice_get}
 use Rattle.std.specs.Cmp.Lexicographic.{slice_cmp}
 use Rattle.std.specs.declared.cmp.Ordering.{Ordering}
 use Rattle.std.specs.declared.cmp.Ordering.TheVariants.{Less}
 use Rattle.mt_stamp.specs.StampOrder.{Stamp, stamp_cmp, stamp_eq}
 
--- A place, named by the stamp that added it, and the place that it was added after; none: at the head.
+-- A place, named by the stamp that added it, and the place that it was added after; none: at the
+-- head.
 pub record TreePlace : Type 0 where
   pub place : Stamp
   pub after : Option Stamp
@@ -29,12 +31,13 @@ abbrev pub path_within : ℕ → List TreePlace → Stamp → List Stamp
 path_within zero places p = p ∷ []
 path_within (suc n) places p = path_to (path_within n places) (after_of places p) ++ p ∷ []
 
--- The path to a place: the stamps from the head down to its own, each that of the place which the next was added after.
+-- The path to a place: the stamps from the head down to its own, each that of the place which the
+-- next was added after.
 abbrev pub path : List TreePlace → Stamp → List Stamp
 path places p = path_within (length places) places p
 
--- Paths are compared stamp by stamp: where they first differ the greater stamp comes first, and a path before those that go on
--- from it.
+-- Paths are compared stamp by stamp: where they first differ the greater stamp comes first, and a
+-- path before those that go on from it.
 abbrev pub path_cmp : List Stamp → List Stamp → Ordering
 path_cmp = slice_cmp (λ a b. stamp_cmp b a)
 
@@ -49,7 +52,10 @@ pub record IsPlaceOf (places : List TreePlace) (p : Stamp) : Type 0 where
   pub at : slice_get places index ≡ Some found
   pub is : found.place ≡ p
 
--- The places are a tree: no two have one stamp, and what a place was added after is a place with a smaller stamp.
+-- The places are a tree: no two have one stamp, and what a place was added after is a place with a
+-- smaller stamp.
 pub record IsTree (places : List TreePlace) : Type 0 where
-  pub apart : (i j : ℕ) (s t : TreePlace) → slice_get places i ≡ Some s → slice_get places j ≡ Some t → s.place ≡ t.place → i ≡ j
-  pub after_older : (i : ℕ) (t : TreePlace) (p : Stamp) → slice_get places i ≡ Some t → t.after ≡ Some p → IsPlaceOf places p × (stamp_cmp p t.place ≡ Less)
+  pub apart : (i j : ℕ) (s t : TreePlace) → slice_get places i ≡ Some s → slice_get places j
+      ≡ Some t → s.place ≡ t.place → i ≡ j
+  pub after_older : (i : ℕ) (t : TreePlace) (p : Stamp) → slice_get places i ≡ Some t → t.after
+      ≡ Some p → IsPlaceOf places p × (stamp_cmp p t.place ≡ Less)

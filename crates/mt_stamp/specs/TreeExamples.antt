@@ -58,7 +58,8 @@ x_and_itself = refl
 
 -- what goes on from y stands before x, whichever is newer
 abbrev pub five : List TreePlace
-five = added a None ∷ added x (Some a) ∷ added y (Some a) ∷ added z None ∷ added (stamp 4 10 3) (Some y) ∷ []
+five = added a None ∷ added x (Some a) ∷ added y (Some a) ∷ added z None
+    ∷ added (stamp 4 10 3) (Some y) ∷ []
 
 pub below_y : path five (stamp 4 10 3) ≡ a ∷ y ∷ stamp 4 10 3 ∷ []
 below_y = refl
@@ -67,5 +68,6 @@ pub below_y_before_x : tree_cmp five (stamp 4 10 3) x ≡ Less
 below_y_before_x = refl
 
 -- the order of the list says nothing
-pub y_before_x_turned : tree_cmp (added z None ∷ added y (Some a) ∷ added x (Some a) ∷ added a None ∷ []) y x ≡ Less
+pub y_before_x_turned : tree_cmp (added z None ∷ added y (Some a) ∷ added x (Some a) ∷ added a None
+    ∷ []) y x ≡ Less
 y_before_x_turned = refl

@@ -8,7 +8,8 @@ use Rattle.mt_stamp.specs.Tree.{TreePlace, IsTree, path_to, path, tree_cmp}
 
 -- The path to a place is the path to what it was added after, and then its own stamp.
 abbrev pub PathsLeadThere : Type 0
-PathsLeadThere = (places : List TreePlace) → IsTree places → (i : ℕ) (t : TreePlace) → slice_get places i ≡ Some t
+PathsLeadThere = (places : List TreePlace) → IsTree places → (i : ℕ) (t : TreePlace)
+    → slice_get places i ≡ Some t
     → path places t.place ≡ path_to (path places) t.after ++ t.place ∷ []
 
 -- The order is total, and only a place and itself tie.
@@ -21,15 +22,22 @@ TreesAreOrdered = (places : List TreePlace) → IsTreeOrder places
 
 -- A place stands before each place that was added after it.
 abbrev pub ParentsStandFirst : Type 0
-ParentsStandFirst = (places : List TreePlace) → IsTree places → (i : ℕ) (s t : TreePlace) → slice_get places i ≡ Some t
+ParentsStandFirst = (places : List TreePlace) → IsTree places → (i : ℕ) (s t : TreePlace)
+    → slice_get places i ≡ Some t
     → t.after ≡ Some s.place → tree_cmp places s.place t.place ≡ Less
 
--- Of two places added after one place, or both at the head, the one with the greater stamp stands first.
+-- Of two places added after one place, or both at the head, the one with the greater stamp stands
+-- first.
 abbrev pub SiblingsFall : Type 0
-SiblingsFall = (places : List TreePlace) → IsTree places → (i j : ℕ) (s t : TreePlace) → slice_get places i ≡ Some s → slice_get places j ≡ Some t
+SiblingsFall = (places : List TreePlace) → IsTree places → (i j : ℕ) (s t : TreePlace)
+    → slice_get places i ≡ Some s → slice_get places j ≡ Some t
     → s.after ≡ t.after → stamp_cmp s.place t.place ≡ Less → tree_cmp places t.place s.place ≡ Less
 
--- What goes on from the one with the greater stamp stands first too: all that is under a place stands together.
+-- What goes on from the one with the greater stamp stands first too: all that is under a place
+-- stands together.
 abbrev pub SubtreesStandTogether : Type 0
-SubtreesStandTogether = (places : List TreePlace) → IsTree places → (i j : ℕ) (s t : TreePlace) (p : Stamp) (rest : List Stamp) → slice_get places i ≡ Some s → slice_get places j ≡ Some t
-    → s.after ≡ t.after → stamp_cmp s.place t.place ≡ Less → path places p ≡ path places t.place ++ rest → tree_cmp places p s.place ≡ Less
+SubtreesStandTogether = (places : List TreePlace) → IsTree places
+    → (i j : ℕ) (s t : TreePlace) (p : Stamp) (rest : List Stamp) → slice_get places i ≡ Some s
+    → slice_get places j ≡ Some t
+    → s.after ≡ t.after → stamp_cmp s.place t.place ≡ Less → path places p ≡ path places t.place
+        ++ rest → tree_cmp places p s.place ≡ Less

@@ -3,7 +3,8 @@
 ghost use Rattle.std.specs.Prelude.{◌≡◌};
 ghost use Rattle.mt_stamp.specs.StampOrder.{stamp_cmp, dot_cmp};
 ghost use Rattle.mt_stamp.specs.Laws.{AreOrdered, TextsAreApart};
-ghost use Rattle.mt_stamp.specs.TreeLaws.{PathsLeadThere, TreesAreOrdered, ParentsStandFirst, SiblingsFall, SubtreesStandTogether};
+ghost use Rattle.mt_stamp.specs.TreeLaws.{PathsLeadThere, TreesAreOrdered, ParentsStandFirst};
+ghost use Rattle.mt_stamp.specs.TreeLaws.{SiblingsFall, SubtreesStandTogether};
 
 use crate::name::Dot;
 use crate::stamp::Stamp;
@@ -33,9 +34,10 @@ pub fn texts()
     ensures { TextsAreApart }
 {}
 
-/// The order of a tree of places, which is its walk: a path leads from the head to each place, and places are ordered by
-/// their paths; a place stands before those put after it, and of two put after one place, or at the head, the one with the
-/// greater stamp stands first, with all that is under it.
+/// The order of a tree of places, which is its walk: a path leads from the head to each place, and
+/// places are ordered by their paths; a place stands before those put after it, and of two put
+/// after one place, or at the head, the one with the greater stamp stands first, with all that is
+/// under it.
 pub fn tree_order()
     ensures path { PathsLeadThere }
     ensures ordered { TreesAreOrdered }

@@ -1,7 +1,8 @@
-//! Names: replicas, dots and stamps, their order and their texts, the order of a tree of places, and lists inside other types.
+//! Names: replicas, dots and stamps, their order and their texts, the order of a tree of places,
+//! and lists inside other types.
 //!
-//! A stamp names an operation, by a clock, the replica that made it, and its number among that replica's. Stamps have one order and one text
-//! each, the same for every editor:
+//! A stamp names an operation, by a clock, the replica that made it, and its number among that
+//! replica's. Stamps have one order and one text each, the same for every editor:
 //!
 //! ```rust
 //! use mt_stamp::{Replica, Stamp};

@@ -1,12 +1,14 @@
 //! A list inside another type.
 
-ghost use Rattle.std.specs.Prelude.{◌≡◌, ◌≤◌, ◌<◌, Some, OnOk, OnErr, length, slice_get, insert, remove};
+ghost use Rattle.std.specs.Prelude.{◌≡◌, ◌≤◌, ◌<◌, Some, OnOk, OnErr, length, slice_get, insert};
+ghost use Rattle.std.specs.Prelude.{remove};
 ghost use Rattle.std.specs.Borrow.{sem};
 
 use std::alloc::{AllocError, AllocFailed, Allocator, Global};
 use std::marker::Model;
 
-/// A list inside another type, kept in a `Vec` and seen as the list of its items. Only `clone` and `insert` take memory.
+/// A list inside another type, kept in a `Vec` and seen as the list of its items. Only `clone` and
+/// `insert` take memory.
 #[derive(Drop)]
 #[derive_where(Debug; T)]
 pub struct List<T, A: Allocator = Global> {
@@ -46,8 +48,8 @@ impl<T, A: Allocator> List<T, A> {
         items
     }
 
-    /// Puts an item in at an index of at most the length, before what stands there. Refused only where memory is, and then
-    /// the list is unchanged and the item comes back. Moves what follows.
+    /// Puts an item in at an index of at most the length, before what stands there. Refused only
+    /// where memory is, and then the list is unchanged and the item comes back. Moves what follows.
     pub fn insert(&mut self, index: usize, item: T) -> Result<(), AllocFailed<T>>
         requires { index ≤ length self.old }
         ensures ok { OnOk result (self.new ≡ insert self.old index item) }
@@ -76,11 +78,13 @@ impl<T, A: Allocator> List<T, A> {
 }
 
 impl<T: Drop, A: Allocator> List<T, A> {
-    /// Moves the item at an index to another: it is taken out, and then put in. Moves what lies between. Takes no memory.
+    /// Moves the item at an index to another: it is taken out, and then put in. Moves what lies
+    /// between. Takes no memory.
     pub fn move_item(&mut self, from: usize, to: usize)
         requires from { from < length self.old }
         requires to { to < length self.old }
-        ensures { (item : T) → slice_get self.old from ≡ Some item → self.new ≡ insert (remove self.old from) to item }
+        ensures { (item : T) → slice_get self.old from ≡ Some item → self.new
+            ≡ insert (remove self.old from) to item }
     {
         let item = self.items.remove(from);
         let _room = self.items.insert(to, item);

@@ -16,10 +16,11 @@ pub struct Replica(pub u128);
 impl Replica {
     ghost use Rattle.mt_stamp.specs.Texts.{replica_text};
 
-    /// Reads a replica in any form that the crate `uuid` parses: hyphenated, of 32 digits, in braces or
-    /// as a URN, in either case. Every other text is refused as `BadText` (4).
+    /// Reads a replica in any form that the crate `uuid` parses: hyphenated, of 32 digits, in
+    /// braces or as a URN, in either case. Every other text is refused as `BadText` (4).
     pub fn read(text: &str) -> Result<Self, StampFault>
-        ensures exact { MatchOption (parsed text.now) (result ≡ Err StampFault.BadText) (λ bytes. result ≡ Ok (record { 0 = from_be_bytes w128 bytes })) }
+        ensures exact { MatchOption (parsed text.now) (result ≡ Err StampFault.BadText)
+            (λ bytes. result ≡ Ok (record { 0 = from_be_bytes w128 bytes })) }
         ensures again { (r : Replica) → r.0 < 2 ^ 128 → text.now ≡ replica_text r → result ≡ Ok r }
     {
         match Uuid::parse_str(text) {
@@ -45,8 +46,8 @@ impl Replica {
     }
 }
 
-/// The name of one operation of a replica: its operations are numbered 1, 2, 3 in the order in which
-/// it makes them. Dots are ordered by replica, then by number.
+/// The name of one operation of a replica: its operations are numbered 1, 2, 3 in the order in
+/// which it makes them. Dots are ordered by replica, then by number.
 #[derive(Clone, Copy, Debug, PartialEq, Eq, PartialOrd, Ord, Hash)]
 pub struct Dot {
     pub replica: Replica,

@@ -15,11 +15,13 @@ use std::cmp::Ordering;
 use std::hash::{Hash, Hasher};
 use std::marker::Model;
 
-/// A stamp: the clock of an operation, the replica that made it and its number among that replica's.
-/// Clock and number lie between 1 and 2^62. Stamps are ordered by clock, then replica, then number.
+/// A stamp: the clock of an operation, the replica that made it and its number among that
+/// replica's. Clock and number lie between 1 and 2^62. Stamps are ordered by clock, then replica,
+/// then number.
 #[derive(Clone, Copy, Debug)]
 pub struct Stamp {
-    // First, since its 128 bits are aligned to 16 bytes: behind the clock it would leave 16 bytes of each stamp unused.
+    // First, since its 128 bits are aligned to 16 bytes: behind the clock it would leave 16 bytes
+    // of each stamp unused.
     replica: Replica,
     clock: u64,
     seq: u64,
@@ -32,7 +34,8 @@ impl Model for Stamp {
 
     ghost view = { λ s. record { clock = s.clock; replica = s.replica; seq = s.seq } };
 
-    ghost invariant = { λ s. IsStamp (record { clock = s.clock; replica = s.replica; seq = s.seq }) };
+    ghost invariant = { λ s. IsStamp (record { clock = s.clock; replica = s.replica; seq = s.seq })
+        };
 
     ghost inverse = { λ m. record { clock = m.clock; replica = m.replica; seq = m.seq } };
 }
@@ -60,7 +63,8 @@ impl PartialOrd for Stamp {
 
     ghost partial_cmp = { as_partial_cmp stamp_cmp };
 
-    ghost laws = { partial_order_from_own_ties (partial_order_from_total stamps_total) (Prim.search (comparing, rules)) };
+    ghost laws = { partial_order_from_own_ties (partial_order_from_total stamps_total)
+        (Prim.search (comparing, rules)) };
 
     #[inline]
     fn partial_cmp(&self, other: &Stamp) -> Option<Ordering> {
@@ -107,14 +111,17 @@ impl Stamp {
     /// The greatest clock and the greatest number: 2^62.
     pub const GREATEST: u64 = 1 << 62;
 
-    /// A stamp of its parts. Refused, in this order: `ZeroClock` (1) where the clock is 0, `ZeroSeq` (2)
-    /// where the number is 0, `TooGreat` (3) where either is above 2^62.
+    /// A stamp of its parts. Refused, in this order: `ZeroClock` (1) where the clock is 0,
+    /// `ZeroSeq` (2) where the number is 0, `TooGreat` (3) where either is above 2^62.
     pub fn new(clock: u64, replica: Replica, seq: u64) -> Result<Self, StampFault>
-        ensures ok { IfOk result (λ s. (s ≡ record { clock = clock; replica = replica; seq = seq }) × IsStamp s) }
-        ensures made { IsStamp (record { clock = clock; replica = replica; seq = seq }) → result ≡ Ok (record { clock = clock; replica = replica; seq = seq }) }
+        ensures ok { IfOk result (λ s. (s ≡ record { clock = clock; replica = replica; seq = seq })
+            × IsStamp s) }
+        ensures made { IsStamp (record { clock = clock; replica = replica; seq = seq }) → result
+            ≡ Ok (record { clock = clock; replica = replica; seq = seq }) }
         ensures zero_clock { IsErrOf result StampFault.ZeroClock ↔ (clock ≡ 0) }
         ensures zero_seq { IsErrOf result StampFault.ZeroSeq ↔ ((clock ≢ 0) × (seq ≡ 0)) }
-        ensures too_great { IsErrOf result StampFault.TooGreat ↔ ((clock ≢ 0) × (seq ≢ 0) × ((greatest < clock) ⊎ (greatest < seq))) }
+        ensures too_great { IsErrOf result StampFault.TooGreat
+            ↔ ((clock ≢ 0) × (seq ≢ 0) × ((greatest < clock) ⊎ (greatest < seq))) }
     {
         if clock == 0 {
             return Err(StampFault::ZeroClock);

@@ -1,6 +1,7 @@
 //! Stamps as text: `clock.seq.replica`.
 
-ghost use Rattle.std.specs.Prelude.{◌≡◌, ◌<◌, ◌^◌, ◌∷◌, ◌++◌, List, ℕ, IfOk, IfErr, IfSome, MatchOption, OnOk, OnErr, Ok, Err};
+ghost use Rattle.std.specs.Prelude.{◌≡◌, ◌<◌, ◌^◌, ◌∷◌, ◌++◌, List, ℕ, IfOk, IfErr, IfSome};
+ghost use Rattle.std.specs.Prelude.{MatchOption, OnOk, OnErr, Ok, Err};
 ghost use Rattle.std.specs.Fmt.{decimal};
 ghost use Rattle.std.specs.String.{string_bytes};
 ghost use Rattle.mt_stamp.specs.StampOrder.{Stamp, IsStamp};
@@ -13,12 +14,13 @@ use itoa::Buffer;
 use std::alloc::{AllocError, Allocator};
 use uuid::Uuid;
 
-// The most bytes that a stamp's text has: two numbers of 19 digits, two points and the 36 bytes of a replica.
+// The most bytes that a stamp's text has: two numbers of 19 digits, two points and the 36 bytes of
+// a replica.
 const LONGEST: usize = 76;
 
 impl Stamp {
-    /// The stamp as `clock.seq.replica`: the numbers in decimal, the replica hyphenated in lower case,
-    /// at most 76 bytes. Refused only as `Memory` (0).
+    /// The stamp as `clock.seq.replica`: the numbers in decimal, the replica hyphenated in lower
+    /// case, at most 76 bytes. Refused only as `Memory` (0).
     pub fn text<A: Allocator>(&self, alloc: A) -> Result<String<A>, StampFault>
         ensures ok { IfOk result (λ text. string_bytes text ≡ stamp_text self.now) }
         ensures err { IfErr result (λ fault. fault ≡ StampFault.Memory) }
@@ -28,9 +30,11 @@ impl Stamp {
         Ok(text)
     }
 
-    /// Writes the stamp's text after what `text` holds. Where memory is refused, `text` is as it was.
+    /// Writes the stamp's text after what `text` holds. Where memory is refused, `text` is as it
+    /// was.
     pub fn append_text<A: Allocator>(&self, text: &mut String<A>) -> Result<(), AllocError>
-        ensures ok { OnOk result (string_bytes text.new ≡ string_bytes text.old ++ stamp_text self.now) }
+        ensures ok { OnOk result (string_bytes text.new ≡ string_bytes text.old
+            ++ stamp_text self.now) }
         ensures err { OnErr result (string_bytes text.new ≡ string_bytes text.old) }
     {
         text.reserve(LONGEST)?;
@@ -72,7 +76,8 @@ fn stamp_of(text: &str) -> Option<Stamp>
 // The number before the first point of a text, and what follows the point.
 fn number_and_rest(text: &str) -> Option<(u64, &str)>
     ensures found { IfSome result (λ p. text.now ≡ decimal p.0 ++ (point ∷ p.1.now)) }
-    ensures only { (n : ℕ) (rest : List ℕ) → n < 2 ^ 64 → text.now ≡ decimal n ++ (point ∷ rest) → MatchOption result ⊥ (λ p. (p.0 ≡ n) × (p.1.now ≡ rest)) }
+    ensures only { (n : ℕ) (rest : List ℕ) → n < 2 ^ 64 → text.now ≡ decimal n ++ (point ∷ rest)
+        → MatchOption result ⊥ (λ p. (p.0 ≡ n) × (p.1.now ≡ rest)) }
 {
     let (before, rest) = text.split_once('.')?;
     let number = number(before)?;

@@ -8,4 +8,6 @@ use Rattle.mt_opcodec.specs.LogValue.{LogMap}
 use Rattle.mt_sync.specs.Holding.{Growing}
 
 abbrev pub growing_code : Coded Growing
-growing_code = code_by (Option LogMap × Bool) (coded× (coded_option (map.code dot_code operation_code)) coded_bool) (λ g. (g.set, g.whole)) (λ p. record { set = p.0; whole = p.1 }) (λ _. refl)
+growing_code = code_by (Option LogMap × Bool)
+    (coded× (coded_option (map.code dot_code operation_code)) coded_bool) (λ g. (g.set, g.whole))
+    (λ p. record { set = p.0; whole = p.1 }) (λ _. refl)

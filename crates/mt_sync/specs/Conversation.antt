@@ -1,5 +1,6 @@
 -- One end of a conversation (profile): what it waits for, and what each byte does to it.
-use Rattle.std.specs.Prelude.{ℕ, Bool, false, List, [], ◌∷◌, ◌++◌, length, Option, Some, None, nat_le, if◌then◌else◌, is_some, not, nat_eq}
+use Rattle.std.specs.Prelude.{ℕ, Bool, false, List, [], ◌∷◌, ◌++◌, length, Option, Some, None}
+use Rattle.std.specs.Prelude.{nat_le, if◌then◌else◌, is_some, not, nat_eq}
 use Rattle.std.specs.Cmp.Lexicographic.{pointwise}
 use Rattle.std.specs.FinMap as map
 use Rattle.mt_stamp.specs.declared.name.Dot.{Dot}
@@ -7,23 +8,27 @@ use Rattle.mt_op.specs.OpValue.{Op}
 use Rattle.mt_op.specs.Dots.{op_dot}
 use Rattle.mt_opcodec.specs.OpText.{op_text}
 use Rattle.mt_opcodec.specs.LogValue.{LogMap}
-use Rattle.sync_framing.specs.Frames.{longest_body, frame_text, Front, cut_short, too_long, whole, front_of}
+use Rattle.sync_framing.specs.Frames.{longest_body, frame_text, Front, cut_short, too_long, whole}
+use Rattle.sync_framing.specs.Frames.{front_of}
 use Rattle.sync_messages.specs.Summary.{Summary, summary_of, lacking}
-use Rattle.sync_messages.specs.Messages.{Message, have, ops, bye, have_text, bye_text, message_at, ops_frames}
+use Rattle.sync_messages.specs.Messages.{Message, have, ops, bye, have_text, bye_text, message_at}
+use Rattle.sync_messages.specs.Messages.{ops_frames}
 use Rattle.mt_sync.specs.declared.fault.TalkFault.{TalkFault}
-use Rattle.mt_sync.specs.declared.fault.TalkFault.TheVariants.{Failed, FrameTooLong, BadMessage, OutOfTurn, Conflict}
+use Rattle.mt_sync.specs.declared.fault.TalkFault.TheVariants.{Failed, FrameTooLong, BadMessage}
+use Rattle.mt_sync.specs.declared.fault.TalkFault.TheVariants.{OutOfTurn, Conflict}
 use Rattle.mt_sync.specs.declared.fault.Side.{Side}
 use Rattle.mt_sync.specs.declared.fault.Side.TheVariants.{Caller, Answerer}
 
--- What an end waits for: the other's Have, or operations and Bye. The caller keeps the Have that it answers at the end.
+-- What an end waits for: the other's Have, or operations and Bye. The caller keeps the Have that it
+-- answers at the end.
 pub data Turn : Type 0 where
   awaits_have : Side → Turn
   awaits_ops : Option Summary → Turn
   ended : Turn
   stopped : TalkFault → Turn
 
--- An end: its turn, the bytes that are in no whole frame yet, and the set of its editor's log, of which there is none where the editor
--- has failed.
+-- An end: its turn, the bytes that are in no whole frame yet, and the set of its editor's log, of
+-- which there is none where the editor has failed.
 pub record End : Type 0 where
   pub turn : Turn
   pub rest : List ℕ
@@ -58,7 +63,8 @@ with_op set o = if is_some (map.get set (op_dot o)) then set else map.insert set
 -- Operations join a set one by one, up to the first whose dot names another one there.
 abbrev pub joined : LogMap → List Op → LogMap × Option Dot
 joined set [] = (set, None)
-joined set (o ∷ list) = if conflicts (map.get set (op_dot o)) o then (set, Some (op_dot o)) else joined (with_op set o) list
+joined set (o ∷ list) = if conflicts (map.get set (op_dot o)) o then (set, Some (op_dot o)) else
+    joined (with_op set o) list
 
 abbrev pub taken : Turn → LogMap → Option Dot → Received
 taken turn set None = goes_on turn (Some set) []
@@ -73,7 +79,8 @@ takes_ops turn (Some set) list = taken turn (joined set list).0 (joined set list
 abbrev pub greets_back : Option LogMap → Summary → Received
 greets_back None summary = stop Failed None
 greets_back (Some set) summary =
-    if can_say (summary_of set) then goes_on (awaits_ops None) (Some set) (frame_text (have_text (summary_of set)) ++ answer set summary)
+    if can_say (summary_of set) then goes_on (awaits_ops None) (Some set)
+        (frame_text (have_text (summary_of set)) ++ answer set summary)
     else stop FrameTooLong (Some set)
 
 -- the caller's reply to Bye: what the answerer lacks, and Bye
@@ -83,7 +90,8 @@ answers_back (Some set) summary = goes_on ended (Some set) (answer set summary)
 
 -- what a message does, by turns
 abbrev pub receives_message : Turn → Message → Option LogMap → Received
-receives_message (awaits_have Caller) (have summary) set = goes_on (awaits_ops (Some summary)) set []
+receives_message (awaits_have Caller) (have summary) set = goes_on (awaits_ops (Some summary)) set
+    []
 receives_message (awaits_have Answerer) (have summary) set = greets_back set summary
 receives_message (awaits_ops owed) (ops list) set = takes_ops (awaits_ops owed) set list
 receives_message (awaits_ops (Some summary)) bye set = answers_back set summary
@@ -105,8 +113,8 @@ front_in turn set bytes cut_short = (record { turn = turn; rest = bytes; set = s
 front_in turn set bytes too_long = stop FrameTooLong set
 front_in turn set bytes (whole body rest) = body_in turn set body
 
--- One more byte: a frame is read once its last byte is there. A byte after the end is out of turn, and after a stop
--- bytes are not looked at.
+-- One more byte: a frame is read once its last byte is there. A byte after the end is out of turn,
+-- and after a stop bytes are not looked at.
 unfoldable pub byte_in : End → ℕ → Received
 byte_in end byte = by end.turn
   where
@@ -118,4 +126,5 @@ byte_in end byte = by end.turn
 -- bytes one after another
 abbrev pub receives : End → List ℕ → Received
 receives end [] = (end, [])
-receives end (byte ∷ bytes) = ((receives (byte_in end byte).0 bytes).0, (byte_in end byte).1 ++ (receives (byte_in end byte).0 bytes).1)
+receives end (byte ∷ bytes) = ((receives (byte_in end byte).0 bytes).0, (byte_in end byte).1
+    ++ (receives (byte_in end byte).0 bytes).1)

@@ -1,5 +1,6 @@
 -- What a conversation over a reader and a writer reads, writes and answers.
-use Rattle.std.specs.Prelude.{◌≡◌, ℕ, List, [], Option, Some, None, Result, true, false, ◌⊎◌, Ok, Err}
+use Rattle.std.specs.Prelude.{◌≡◌, ℕ, List, [], Option, Some, None, Result, true, false, ◌⊎◌, Ok}
+use Rattle.std.specs.Prelude.{Err}
 use Rattle.std.specs.Io.KnownBytes.{Appends, Consumes, IsAtEnd}
 use Rattle.mt_opcodec.specs.LogValue.{LogMap}
 use Rattle.base_io.specs.Latch.{AppendsPrefix, Latch}
@@ -17,7 +18,8 @@ use Rattle.mt_sync.specs.declared.fault.Side.{Side}
 use Rattle.mt_sync.specs.declared.fault.Side.TheVariants.{Caller, Answerer}
 use Rattle.mt_sync.specs.Feeding.{Talking, IsOpen, IsGoing, end_at}
 use Rattle.mt_sync.specs.Leaving.{IsLeft}
-use Rattle.mt_sync.specs.Conversation.{can_say, answer, awaits_have, ended, stopped, End, Received, receives}
+use Rattle.mt_sync.specs.Conversation.{can_say, answer, awaits_have, ended, stopped, End, Received}
+use Rattle.mt_sync.specs.Conversation.{receives}
 
 -- an end stopped by this fault, or memory ran out
 abbrev pub StopsBy : End → Option LogMap → TalkFault → Type 0
@@ -25,14 +27,17 @@ StopsBy end set Memory = Unit {0}
 StopsBy end set fault = (end.turn ≡ stopped fault) × (end.set ≡ set)
 
 -- what an answer says of what was heard
-abbrev pub Outcome : Received → Option (List ℕ) → Option (List ℕ) → Option LogMap → Result (Unit {0}) SyncFault → Type 0
-Outcome t written written' set (Ok _) = (t.0.turn ≡ ended) × (t.0.set ≡ set) × Appends written written' t.1
+abbrev pub Outcome : Received → Option (List ℕ) → Option (List ℕ) → Option LogMap
+    → Result (Unit {0}) SyncFault → Type 0
+Outcome t written written' set (Ok _) = (t.0.turn ≡ ended) × (t.0.set ≡ set)
+    × Appends written written' t.1
 Outcome t written written' set (Err (fault.Talk by)) = StopsBy t.0 set by
 Outcome t written written' set (Err fault.Ended) = IsOpen t.0.turn × (t.0.set ≡ set)
 Outcome t written written' set (Err fault.Read) = IsOpen t.0.turn × (t.0.set ≡ set)
 Outcome t written written' set (Err fault.Write) = IsGoing t.0.turn × (t.0.set ≡ set)
 
--- what takes part in a conversation, before or after: a holder's set, what is left to be read, and what was written
+-- what takes part in a conversation, before or after: a holder's set, what is left to be read, and
+-- what was written
 pub record Conversant : Type 0 where
   pub set : Option LogMap
   pub read : Option (List ℕ)
@@ -41,19 +46,23 @@ pub record Conversant : Type 0 where
 abbrev pub conversant : Option LogMap → Option (List ℕ) → Option (List ℕ) → Conversant
 conversant set read written = record { set = set; read = read; written = written }
 
--- the bytes that were read, what was written of what they call for, what the answer says of them, and what is left where memory ran out
-pub record Converses (start : End) (before after : Conversant) (result : Result (Unit {0}) SyncFault) : Type 0 where
+-- the bytes that were read, what was written of what they call for, what the answer says of them,
+-- and what is left where memory ran out
+pub record Converses (start : End) (before after : Conversant)
+    (result : Result (Unit {0}) SyncFault) : Type 0 where
   pub bytes : List ℕ
   pub consumed : Consumes before.read after.read bytes
   pub prefix : AppendsPrefix before.written after.written (receives start bytes).1
   pub outcome : Outcome (receives start bytes) before.written after.written after.set result
   pub left : result ≡ Err (fault.Talk Memory) → IsLeft start bytes after.set
 
--- What a refusal says of the reader and the writer: which of them has failed, or that the input has ended. A stop is the talk's own.
+-- What a refusal says of the reader and the writer: which of them has failed, or that the input has
+-- ended. A stop is the talk's own.
 abbrev pub Blames : {R W : Type 0} → (R → Option (List ℕ)) → Latch R → Latch W → SyncFault → Type 0
 Blames remaining reader writer fault.Read = reader.failed ≡ true
 Blames remaining reader writer fault.Write = writer.failed ≡ true
-Blames remaining reader writer fault.Ended = (reader.failed ≡ false) × IsAtEnd (remaining reader.inner)
+Blames remaining reader writer fault.Ended = (reader.failed ≡ false)
+    × IsAtEnd (remaining reader.inner)
 Blames remaining reader writer (fault.Talk by) = Unit {0}
 
 -- neither has failed
@@ -64,28 +73,38 @@ AreSound reader writer = (reader.failed ≡ false) × (writer.failed ≡ false)
 
 -- a caller's Have was written
 abbrev pub Begins : Option LogMap → Option (List ℕ) → Option (List ℕ) → Type 0
-Begins log written mid = (set : LogMap) × ((log ≡ Some set) × ((can_say (summary_of set) ≡ true) × Appends written mid (frame_text (have_text (summary_of set)))))
+Begins log written mid = (set : LogMap) × ((log ≡ Some set)
+    × ((can_say (summary_of set) ≡ true) × Appends written mid
+    (frame_text (have_text (summary_of set)))))
 
 -- why a caller did not come to read
-abbrev pub NotBegun : Option LogMap → Option (List ℕ) → Option (List ℕ) → Result (Unit {0}) SyncFault → Type 0
+abbrev pub NotBegun : Option LogMap → Option (List ℕ) → Option (List ℕ)
+    → Result (Unit {0}) SyncFault → Type 0
 NotBegun log written written' (Err (fault.Talk Memory)) = written' ≡ written
 NotBegun log written written' (Err (fault.Talk Failed)) = (log ≡ None) × (written' ≡ written)
-NotBegun log written written' (Err (fault.Talk FrameTooLong)) = (set : LogMap) × ((log ≡ Some set) × ((can_say (summary_of set) ≡ false) × (written' ≡ written)))
-NotBegun log written written' (Err fault.Write) = (set : LogMap) × ((log ≡ Some set) × AppendsPrefix written written' (frame_text (have_text (summary_of set))))
+NotBegun log written written' (Err (fault.Talk FrameTooLong)) = (set : LogMap)
+    × ((log ≡ Some set) × ((can_say (summary_of set) ≡ false) × (written' ≡ written)))
+NotBegun log written written' (Err fault.Write) = (set : LogMap)
+    × ((log ≡ Some set) × AppendsPrefix written written' (frame_text (have_text (summary_of set))))
 NotBegun log written written' _ = ⊥
 
 -- what the beginning of a caller answers
-abbrev pub BeginsWith : {X : Type 0} → (X → Talking) → Option LogMap → Option (List ℕ) → Option (List ℕ) → Result X SyncFault → Type 0
-BeginsWith view log written written' (Ok x) = (view x ≡ record { turn = awaits_have Caller; rest = [] }) × Begins log written written'
+abbrev pub BeginsWith : {X : Type 0} → (X → Talking) → Option LogMap → Option (List ℕ)
+    → Option (List ℕ) → Result X SyncFault → Type 0
+BeginsWith view log written written' (Ok x) = (view x
+    ≡ record { turn = awaits_have Caller; rest = [] }) × Begins log written written'
 BeginsWith view log written written' (Err by) = NotBegun log written written' (Err by)
 
 -- A caller writes its Have first; then, and as an answerer at once, the conversation goes on.
 abbrev pub ConversesAs : Side → Conversant → Conversant → Result (Unit {0}) SyncFault → Type 0
-ConversesAs Answerer before after result = Converses (end_at (awaits_have Answerer) [] before.set) before after result
+ConversesAs Answerer before after result = Converses (end_at (awaits_have Answerer) [] before.set)
+    before after result
 ConversesAs Caller before after result =
-    ((after.read ≡ before.read) × ((after.set ≡ before.set) × NotBegun before.set before.written after.written result))
+    ((after.read ≡ before.read) × ((after.set ≡ before.set)
+        × NotBegun before.set before.written after.written result))
     ⊎ ((mid : Option (List ℕ)) × (Begins before.set before.written mid
-    × Converses (end_at (awaits_have Caller) [] before.set) (conversant before.set before.read mid) after result))
+    × Converses (end_at (awaits_have Caller) [] before.set) (conversant before.set before.read mid)
+        after result))
 
 -- ---- operations out of bytes
 
@@ -109,14 +128,17 @@ asked_of None = None
 
 -- what a summary in bytes lacks
 abbrev pub Lacks : {X : Type 0} → (X → List ℕ) → LogMap → List ℕ → Result X MessageFault → Type 0
-Lacks view set bytes (Ok out) = (summary : Summary) × ((asked_of (sole (front_of bytes)) ≡ Some summary) × (view out ≡ answer set summary))
+Lacks view set bytes (Ok out) = (summary : Summary)
+    × ((asked_of (sole (front_of bytes)) ≡ Some summary) × (view out ≡ answer set summary))
 Lacks view set bytes (Err message.Memory) = Unit {0}
 Lacks view set bytes (Err message.FrameTooLong) = is_too_long (front_of bytes) ≡ true
-Lacks view set bytes (Err message.BadMessage) = (is_too_long (front_of bytes) ≡ false) × (asked_of (sole (front_of bytes)) ≡ None)
+Lacks view set bytes (Err message.BadMessage) = (is_too_long (front_of bytes) ≡ false)
+    × (asked_of (sole (front_of bytes)) ≡ None)
 
 -- the frame of the own Have
 abbrev pub HasBytes : {X : Type 0} → (X → List ℕ) → LogMap → Result X MessageFault → Type 0
-HasBytes view set (Ok out) = (can_say (summary_of set) ≡ true) × (view out ≡ frame_text (have_text (summary_of set)))
+HasBytes view set (Ok out) = (can_say (summary_of set) ≡ true)
+    × (view out ≡ frame_text (have_text (summary_of set)))
 HasBytes view set (Err message.Memory) = Unit {0}
 HasBytes view set (Err message.FrameTooLong) = can_say (summary_of set) ≡ false
 HasBytes view set (Err message.BadMessage) = ⊥

@@ -12,16 +12,20 @@ use Rattle.mt_sync.specs.Conversation.{can_say, joined}
 abbrev pub IsLeftOf : LogMap → LogMap → Option LogMap → Type 0
 IsLeftOf own other new = (new ≡ Some own) ⊎ ((new ≡ Some (union own other)) ⊎ (new ≡ None))
 
--- Each editor holds its own operations, and the other's under dots that it had not. No dot clashes, since nothing is sent under a dot
--- that the other end has.
-abbrev pub ExchangesSets : LogMap → LogMap → Result (Unit {0}) TalkFault → Option LogMap → Option LogMap → Type 0
-ExchangesSets a b (Ok _) a' b' = ((can_say (summary_of a) ≡ true) × (can_say (summary_of b) ≡ true)) × ((a' ≡ Some (union a b)) × (b' ≡ Some (union b a)))
-ExchangesSets a b (Err FrameTooLong) a' b' = ((can_say (summary_of a) ≡ false) ⊎ (can_say (summary_of b) ≡ false)) × ((a' ≡ Some a) × (b' ≡ Some b))
+-- Each editor holds its own operations, and the other's under dots that it had not. No dot clashes,
+-- since nothing is sent under a dot that the other end has.
+abbrev pub ExchangesSets : LogMap → LogMap → Result (Unit {0}) TalkFault → Option LogMap
+    → Option LogMap → Type 0
+ExchangesSets a b (Ok _) a' b' = ((can_say (summary_of a) ≡ true) × (can_say (summary_of b) ≡ true))
+    × ((a' ≡ Some (union a b)) × (b' ≡ Some (union b a)))
+ExchangesSets a b (Err FrameTooLong) a' b' = ((can_say (summary_of a) ≡ false)
+    ⊎ (can_say (summary_of b) ≡ false)) × ((a' ≡ Some a) × (b' ≡ Some b))
 ExchangesSets a b (Err Memory) a' b' = IsLeftOf a b a' × IsLeftOf b a b'
 ExchangesSets a b (Err _) a' b' = ⊥
 
 -- the same, of editors of which one may have failed: then nothing changes
-abbrev pub Exchanges : Option LogMap → Option LogMap → Result (Unit {0}) TalkFault → Option LogMap → Option LogMap → Type 0
+abbrev pub Exchanges : Option LogMap → Option LogMap → Result (Unit {0}) TalkFault → Option LogMap
+    → Option LogMap → Type 0
 Exchanges None b result a' b' = (result ≡ Err Failed) × ((a' ≡ None) × (b' ≡ b))
 Exchanges (Some a) None result a' b' = (result ≡ Err Failed) × ((a' ≡ Some a) × (b' ≡ None))
 Exchanges (Some a) (Some b) result a' b' = ExchangesSets a b result a' b'
@@ -32,13 +36,16 @@ Exchanges (Some a) (Some b) result a' b' = ExchangesSets a b result a' b'
 abbrev pub IsMissing : LogMap → LogMap → List Op → Type 0
 IsMissing own other list = AreLogged list × (joined own list ≡ (union own other, None))
 
-abbrev pub FindsMissing : {X : Type 0} → (X → List Op) → LogMap → LogMap → Result X TalkFault → Type 0
-FindsMissing view own other (Ok x) = (can_say (summary_of own) ≡ true) × IsMissing own other (view x)
+abbrev pub FindsMissing : {X : Type 0} → (X → List Op) → LogMap → LogMap → Result X TalkFault
+    → Type 0
+FindsMissing view own other (Ok x) = (can_say (summary_of own) ≡ true)
+    × IsMissing own other (view x)
 FindsMissing view own other (Err Memory) = Unit {0}
 FindsMissing view own other (Err FrameTooLong) = can_say (summary_of own) ≡ false
 FindsMissing view own other (Err _) = ⊥
 
-abbrev pub FindsLacking : {X : Type 0} → (X → List Op) → Option LogMap → Option LogMap → Result X TalkFault → Type 0
+abbrev pub FindsLacking : {X : Type 0} → (X → List Op) → Option LogMap → Option LogMap
+    → Result X TalkFault → Type 0
 FindsLacking view None other result = result ≡ Err Failed
 FindsLacking view (Some own) None result = result ≡ Err Failed
 FindsLacking view (Some own) (Some other) result = FindsMissing view own other result

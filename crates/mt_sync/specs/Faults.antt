@@ -1,7 +1,8 @@
 -- The numbers of refusals (profile).
 use Rattle.std.specs.Prelude.{ℕ}
 use Rattle.mt_sync.specs.declared.fault.TalkFault.{TalkFault}
-use Rattle.mt_sync.specs.declared.fault.TalkFault.TheVariants.{Memory, Conflict, Failed, BadMessage, OutOfTurn, FrameTooLong}
+use Rattle.mt_sync.specs.declared.fault.TalkFault.TheVariants.{Memory, Conflict, Failed, BadMessage}
+use Rattle.mt_sync.specs.declared.fault.TalkFault.TheVariants.{OutOfTurn, FrameTooLong}
 use Rattle.mt_sync.specs.declared.fault.SyncFault.{SyncFault}
 use Rattle.mt_sync.specs.declared.fault.SyncFault.TheVariants.{Talk, Write, Read, Ended}
 

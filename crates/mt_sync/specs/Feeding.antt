@@ -1,17 +1,20 @@
 -- What a talk is seen as, and what feeding it answers.
-use Rattle.std.specs.Prelude.{◌≡◌, ℕ, Bool, true, false, List, [], ◌++◌, Option, Some, None, Result, Ok, Err, IfErr}
+use Rattle.std.specs.Prelude.{◌≡◌, ℕ, Bool, true, false, List, [], ◌++◌, Option, Some, None, Result}
+use Rattle.std.specs.Prelude.{Ok, Err, IfErr}
 use Rattle.mt_opcodec.specs.LogValue.{LogMap}
 use Rattle.sync_framing.specs.declared.FrameFault.{FrameFault}
 use Rattle.sync_framing.specs.declared.FrameFault.TheVariants as frame
 use Rattle.sync_framing.specs.Frames.{frame_text, cut_short, front_of}
 use Rattle.mt_sync.specs.declared.fault.TalkFault.{TalkFault}
-use Rattle.mt_sync.specs.declared.fault.TalkFault.TheVariants.{Memory, Failed, OutOfTurn, FrameTooLong}
+use Rattle.mt_sync.specs.declared.fault.TalkFault.TheVariants.{Memory, Failed, OutOfTurn}
+use Rattle.mt_sync.specs.declared.fault.TalkFault.TheVariants.{FrameTooLong}
 use Rattle.mt_sync.specs.declared.turn.Turn.{Turn as EditorValue}
 use Rattle.mt_sync.specs.declared.turn.Turn.TheVariants as kept
 use Rattle.sync_messages.specs.Summary.{summary_of}
 use Rattle.sync_messages.specs.Messages.{have_text}
 use Rattle.mt_sync.specs.declared.fault.Side.TheVariants.{Caller}
-use Rattle.mt_sync.specs.Conversation.{can_say, Turn, awaits_have, awaits_ops, ended, stopped, End, Received, stop, receives}
+use Rattle.mt_sync.specs.Conversation.{can_say, Turn, awaits_have, awaits_ops, ended, stopped, End}
+use Rattle.mt_sync.specs.Conversation.{Received, stop, receives}
 use Rattle.mt_sync.specs.Leaving.{IsLeft}
 
 abbrev pub turn_of : {A : Type 0} → Editor A → Turn
@@ -66,9 +69,11 @@ abbrev pub Stops : Received → Option LogMap → TalkFault → Type 0
 Stops t set Memory = Unit {0}
 Stops t set fault = t.0 ≡ (stop fault set).0
 
--- what reading a body answers and leaves: the end that it comes to, and what was appended to its replies
+-- what reading a body answers and leaves: the end that it comes to, and what was appended to its
+-- replies
 abbrev pub ReadsBody : Received → Result (Unit {0}) TalkFault → End → List ℕ → List ℕ → Type 0
-ReadsBody t (Ok _) end old new = IsGoing end.turn × ((reply : List ℕ) × (t ≡ (end, reply)) × (new ≡ old ++ reply))
+ReadsBody t (Ok _) end old new = IsGoing end.turn × ((reply : List ℕ) × (t ≡ (end, reply))
+    × (new ≡ old ++ reply))
 ReadsBody t (Err fault) end old new = Stops t end.set fault
 
 -- what hearing a piece comes to: all of it was heard, or it stopped by this fault
@@ -77,13 +82,15 @@ ComesTo view t (Ok out) end = IsGoing end.turn × Waits end.turn end.rest × (t 
 ComesTo view t (Err fault) end = Stops t end.set fault
 
 -- An end has heard a piece.
-pub record Receives {X : Type 0} (view : X → List ℕ) (old : End) (piece : List ℕ) (result : Result X TalkFault) (new : End) : Type 0 where
+pub record Receives {X : Type 0} (view : X → List ℕ) (old : End) (piece : List ℕ)
+    (result : Result X TalkFault) (new : End) : Type 0 where
   -- All of it was heard, or it stopped by this fault.
   pub received : ComesTo view (receives old piece) result new
   -- Where memory ran out, the holder has failed, or has what a front of the piece brought.
   pub left : IfErr result (λ fault. fault ≡ Memory → IsLeft old piece new.set)
 
--- what a refusal of a piece leaves: an end that has stopped by this fault; unless memory ran out, as what is heard does
+-- what a refusal of a piece leaves: an end that has stopped by this fault; unless memory ran out,
+-- as what is heard does
 abbrev pub FeedStops : Received → End → TalkFault → Type 0
 FeedStops t new Memory = new.turn ≡ stopped Memory
 FeedStops t new fault = (t.0 ≡ new) × (new.turn ≡ stopped fault)
@@ -94,7 +101,8 @@ Fed view t (Ok reply) new = IsGoing new.turn × (t ≡ (new, view reply))
 Fed view t (Err fault) new = FeedStops t new fault
 
 -- after a fault every piece is out of turn, and nothing changes
-abbrev pub FeedsAt : {X : Type 0} → (X → List ℕ) → Turn → End → List ℕ → Result X TalkFault → End → Type 0
+abbrev pub FeedsAt : {X : Type 0} → (X → List ℕ) → Turn → End → List ℕ → Result X TalkFault → End
+    → Type 0
 FeedsAt view (stopped fault) old piece result new = (result ≡ Err OutOfTurn) × (new ≡ old)
 FeedsAt view turn old piece result new = Fed view (receives old piece) result new
 
@@ -102,8 +110,10 @@ abbrev pub Feeds : {X : Type 0} → (X → List ℕ) → End → List ℕ → Re
 Feeds view old piece result new = FeedsAt view old.turn old piece result new
 
 -- what a reply answers and appends
-abbrev pub Replies : Received → Result (Unit {0}) TalkFault → Option LogMap → List ℕ → List ℕ → Type 0
-Replies t (Ok _) set old new = IsGoing t.0.turn × (t.0.rest ≡ []) × (t.0.set ≡ set) × (new ≡ old ++ t.1)
+abbrev pub Replies : Received → Result (Unit {0}) TalkFault → Option LogMap → List ℕ → List ℕ
+    → Type 0
+Replies t (Ok _) set old new = IsGoing t.0.turn × (t.0.rest ≡ []) × (t.0.set ≡ set)
+    × (new ≡ old ++ t.1)
 Replies t (Err fault) set old new = Stops t set fault
 
 -- what saying the own Have answers and appends
@@ -119,11 +129,15 @@ CallRefused set Memory = Unit {0}
 CallRefused set FrameTooLong = can_say (summary_of set) ≡ false
 CallRefused set _ = ⊥
 
--- what a call answers of the set of its editor: a talk that waits for a Have, and the frame of its own
-abbrev pub CallsFrom : {X : Type 0} → (X → Talking) → (X → List ℕ) → LogMap → Result X TalkFault → Type 0
-CallsFrom talk bytes set (Ok x) = (talk x ≡ record { turn = awaits_have Caller; rest = [] }) × (can_say (summary_of set) ≡ true) × (bytes x ≡ frame_text (have_text (summary_of set)))
+-- what a call answers of the set of its editor: a talk that waits for a Have, and the frame of its
+-- own
+abbrev pub CallsFrom : {X : Type 0} → (X → Talking) → (X → List ℕ) → LogMap → Result X TalkFault
+    → Type 0
+CallsFrom talk bytes set (Ok x) = (talk x ≡ record { turn = awaits_have Caller; rest = [] })
+    × (can_say (summary_of set) ≡ true) × (bytes x ≡ frame_text (have_text (summary_of set)))
 CallsFrom talk bytes set (Err fault) = CallRefused set fault
 
-abbrev pub Calls : {X : Type 0} → (X → Talking) → (X → List ℕ) → Option LogMap → Result X TalkFault → Type 0
+abbrev pub Calls : {X : Type 0} → (X → Talking) → (X → List ℕ) → Option LogMap → Result X TalkFault
+    → Type 0
 Calls talk bytes None result = result ≡ Err Failed
 Calls talk bytes (Some set) result = CallsFrom talk bytes set result

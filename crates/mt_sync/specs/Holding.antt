@@ -8,7 +8,8 @@ abbrev pub held_by : List LogMap → Option LogMap
 held_by [] = None
 held_by (log ∷ logs) = Some (union_all (log ∷ logs))
 
--- what a log that grows is seen as: its set, none where it has failed, and whether it lies there as one log
+-- what a log that grows is seen as: its set, none where it has failed, and whether it lies there as
+-- one log
 pub record Growing : Type 0 where
   pub set : Option LogMap
   pub whole : Bool

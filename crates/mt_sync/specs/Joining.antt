@@ -1,5 +1,7 @@
--- What joining operations to the set of an editor as a whole answers and leaves: the set does not change where memory runs out.
-use Rattle.std.specs.Prelude.{◌≡◌, ◌≢◌, List, Bool, true, false, Option, Some, None, Result, Ok, Err}
+-- What joining operations to the set of an editor as a whole answers and leaves: the set does not
+-- change where memory runs out.
+use Rattle.std.specs.Prelude.{◌≡◌, ◌≢◌, List, Bool, true, false, Option, Some, None, Result, Ok}
+use Rattle.std.specs.Prelude.{Err}
 use Rattle.std.specs.FinMap as map
 use Rattle.mt_stamp.specs.declared.name.Dot.{Dot}
 use Rattle.mt_op.specs.OpValue.{Op}
@@ -10,7 +12,8 @@ use Rattle.mt_sync.specs.declared.fault.TalkFault.{TalkFault}
 use Rattle.mt_sync.specs.declared.fault.TalkFault.TheVariants.{Memory, Conflict, Failed}
 use Rattle.mt_sync.specs.Conversation.{joined}
 
-abbrev pub JoinsSet : LogMap × Option Dot → LogMap → Result (Unit {0}) TalkFault → Option LogMap → Type 0
+abbrev pub JoinsSet : LogMap × Option Dot → LogMap → Result (Unit {0}) TalkFault → Option LogMap
+    → Type 0
 JoinsSet j set (Ok _) new = (j.1 ≡ None) × (new ≡ Some j.0)
 JoinsSet j set (Err Memory) new = new ≡ Some set
 JoinsSet j set (Err (Conflict dot)) new = (j.1 ≡ Some dot) × (new ≡ Some j.0)

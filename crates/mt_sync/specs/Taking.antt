@@ -9,7 +9,8 @@ use Rattle.mt_sync.specs.declared.fault.TalkFault.{TalkFault}
 use Rattle.mt_sync.specs.declared.fault.TalkFault.TheVariants.{Memory, Conflict, Failed}
 use Rattle.mt_sync.specs.Conversation.{joined}
 
--- they have joined the set, or those before the first clash have; where memory ran out the editor has failed
+-- they have joined the set, or those before the first clash have; where memory ran out the editor
+-- has failed
 abbrev pub TakesSet : LogMap × Option Dot → Result (Unit {0}) TalkFault → Option LogMap → Type 0
 TakesSet j (Ok _) new = (j.1 ≡ None) × (new ≡ Some j.0)
 TakesSet j (Err Memory) new = new ≡ None
@@ -20,7 +21,8 @@ abbrev pub TakesIn : Option LogMap → List Op → Result (Unit {0}) TalkFault �
 TakesIn None list result new = (result ≡ Err Failed) × (new ≡ None)
 TakesIn (Some set) list result new = TakesSet (joined set list) result new
 
--- why a message stops at an operation that an editor refuses to take (what an edit alone is refused as never comes)
+-- why a message stops at an operation that an editor refuses to take (what an edit alone is refused
+-- as never comes)
 abbrev pub refusal_of : EditorFault → TalkFault
 refusal_of (editor.Conflict dot) = Conflict dot
 refusal_of editor.Failed = Failed

@@ -16,8 +16,8 @@ use std::alloc::{Allocator, Global};
 use sync_framing::{FrameFault, sole_body};
 use sync_messages::{Message, MessageFault};
 
-/// One frame: the Have of the log's summary. Refused as `FrameTooLong` (40) where it does not fit a frame, and as `Memory` (0)
-/// where an allocation failed.
+/// One frame: the Have of the log's summary. Refused as `FrameTooLong` (40) where it does not fit a
+/// frame, and as `Memory` (0) where an allocation failed.
 pub fn have_bytes<A: Allocator + Clone, B: Allocator>(
     alloc: A,
     log: &Log<B>,
@@ -32,9 +32,10 @@ pub fn have_bytes<A: Allocator + Clone, B: Allocator>(
     }
 }
 
-/// The operations of a log that the summary in `have` does not cover, as frames of Ops, and Bye. Refused as `FrameTooLong` (40) where the
-/// length at the front of `have` is over 8,388,608; else as `BadMessage` (38) where `have` is not exactly one frame with a
-/// Have; and as `Memory` (0) where an allocation failed.
+/// The operations of a log that the summary in `have` does not cover, as frames of Ops, and Bye.
+/// Refused as `FrameTooLong` (40) where the length at the front of `have` is over 8,388,608; else
+/// as `BadMessage` (38) where `have` is not exactly one frame with a Have; and as `Memory` (0)
+/// where an allocation failed.
 pub fn lack_bytes<A: Allocator + Clone>(
     alloc: A,
     log: &Log<A>,
@@ -62,17 +63,19 @@ pub fn lack_bytes<A: Allocator + Clone>(
     }
 }
 
-/// Takes the operations of frames of Ops up to Bye, frame by frame. Refused as an answerer's `Talk::feed` is, which waits for
-/// operations: 40, 38, 39 (so too for a byte after Bye), 20, 17 or 0; and as `Ended` (49) where the bytes end before Bye. After a
-/// refusal the holder has its own operations and those before the fault; where an allocation failed while operations joined it has failed.
-/// `frames` is where the bytes are kept while they are read.
+/// Takes the operations of frames of Ops up to Bye, frame by frame. Refused as an answerer's
+/// `Talk::feed` is, which waits for operations: 40, 38, 39 (so too for a byte after Bye), 20, 17 or
+/// 0; and as `Ended` (49) where the bytes end before Bye. After a refusal the holder has its own
+/// operations and those before the fault; where an allocation failed while operations joined it has
+/// failed. `frames` is where the bytes are kept while they are read.
 pub fn take_ops<A: Allocator + Clone, H: OpStore<A>>(
     alloc: A,
     frames: Global,
     holder: &mut H,
     bytes: &[u8],
 ) -> Result<(), SyncFault>
-    ensures takes { TakesAll (receives (end_at (awaits_ops None) [] (H.held holder.old)) bytes.now) result
+    ensures takes { TakesAll (receives (end_at (awaits_ops None) [] (H.held holder.old)) bytes.now)
+        result
         (H.held holder.new) }
     ensures left { IfErr result (λ fault. fault ≡ SyncFault.Talk TalkFault.Memory
         → IsLeft (end_at (awaits_ops None) [] (H.held holder.old)) bytes.now (H.held holder.new)) }

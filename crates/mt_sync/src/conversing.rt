@@ -3,7 +3,8 @@
 ghost use Rattle.std.specs.Prelude.{◌≡◌, [], true, false, OnOk, IfErr};
 ghost use Rattle.mt_sync.specs.Feeding.{end_of, IsOpen};
 ghost use Rattle.mt_sync.specs.declared.fault.SyncFault.TheVariants.{Write as WriteFault};
-ghost use Rattle.mt_sync.specs.Conversing.{AreSound, BeginsWith, Blames, Converses, ConversesAs, conversant};
+ghost use Rattle.mt_sync.specs.Conversing.{AreSound, BeginsWith, Blames, Converses, ConversesAs};
+ghost use Rattle.mt_sync.specs.Conversing.{conversant};
 
 use crate::fault::{Side, SyncFault, TalkFault};
 use crate::holder::OpStore;
@@ -15,15 +16,17 @@ use std::io::{Read, Write};
 /// How many bytes are read at once.
 const PIECE: usize = 65_536;
 
-/// Reads and answers until the other end's Bye: a whole conversation, as the caller, who writes its summary first, or as the answerer.
-/// Nothing is read past the piece with that Bye, of at most 65,536 bytes, after which no byte may follow. The holder's operations have to lie in one
-/// log (`whole`), as an editor's always do, and those of a `LogBuilder` once `settle` was called.
+/// Reads and answers until the other end's Bye: a whole conversation, as the caller, who writes its
+/// summary first, or as the answerer. Nothing is read past the piece with that Bye, of at most
+/// 65,536 bytes, after which no byte may follow. The holder's operations have to lie in one log
+/// (`whole`), as an editor's always do, and those of a `LogBuilder` once `settle` was called.
 ///
-/// Refused as the caller's `Talk::call` and each `Talk::feed` are; as `Read` (45) and `Write` (37) where the reader or the
-/// writer has failed, before or in this call; as `Ended` (49) where the input ends before the talk does, and at no other time. A latch that had
-/// failed is not asked and stays as it was; after `Ok` neither has failed. After a refusal the writer holds a prefix of the bytes
-/// that the conversation calls for, and the holder its own operations and those that came before; where an allocation failed while operations
-/// joined, the holder has failed.
+/// Refused as the caller's `Talk::call` and each `Talk::feed` are; as `Read` (45) and `Write` (37)
+/// where the reader or the writer has failed, before or in this call; as `Ended` (49) where the
+/// input ends before the talk does, and at no other time. A latch that had failed is not asked and
+/// stays as it was; after `Ok` neither has failed. After a refusal the writer holds a prefix of the
+/// bytes that the conversation calls for, and the holder its own operations and those that came
+/// before; where an allocation failed while operations joined, the holder has failed.
 pub fn converse<A: Allocator + Clone, R: Read, W: Write, H: OpStore<A>>(
     alloc: A,
     frames: Global,

@@ -14,13 +14,16 @@ use mt_opcodec::Log;
 use std::alloc::Allocator;
 use sync_messages::{Summary, lacking};
 
-/// Swaps between two holders, editors or logs that grow, what each lacks, as a conversation does that the first one begins: each holds its own operations after
-/// it, and the other's under dots that it had not. So both hold the union of their operations, where that is a log; of two operations
-/// under one dot each keeps its own, which nobody is told, as in every conversation.
+/// Swaps between two holders, editors or logs that grow, what each lacks, as a conversation does
+/// that the first one begins: each holds its own operations after it, and the other's under dots
+/// that it had not. So both hold the union of their operations, where that is a log; of two
+/// operations under one dot each keeps its own, which nobody is told, as in every conversation.
 ///
-/// Refused, in this order, as `Failed` (20) where one of them has failed and as `FrameTooLong` (40) where the summary of one of them
-/// does not fit a frame: then both are unchanged. `Memory` (0) where an allocation failed: then each is unchanged, has all that it
-/// lacked, or has failed. `Conflict` (17) is never answered. What it does is what a conversation does (`laws::conversations`).
+/// Refused, in this order, as `Failed` (20) where one of them has failed and as `FrameTooLong` (40)
+/// where the summary of one of them does not fit a frame: then both are unchanged. `Memory` (0)
+/// where an allocation failed: then each is unchanged, has all that it lacked, or has failed.
+/// `Conflict` (17) is never answered. What it does is what a conversation does
+/// (`laws::conversations`).
 pub fn exchange<A: Allocator + Clone, H: OpStore<A>, K: OpStore<A>>(
     alloc: A,
     caller: &mut H,
@@ -37,7 +40,8 @@ pub fn exchange<A: Allocator + Clone, H: OpStore<A>, K: OpStore<A>>(
     take_some(&alloc, answerer, for_answerer)
 }
 
-// What a holder lacks of another one's operations, where its summary, which tells that, fits a frame.
+// What a holder lacks of another one's operations, where its summary, which tells that, fits a
+// frame.
 fn lacks_of<A: Allocator + Clone, H: OpStore<A>, K: OpStore<A>>(
     alloc: &A,
     holder: &mut H,

@@ -72,7 +72,8 @@ impl<T: Drop> From<AllocFailed<T>> for TalkFault {
     }
 }
 
-/// Why a conversation over a reader and a writer, or the taking of operations out of bytes, did not come to its end.
+/// Why a conversation over a reader and a writer, or the taking of operations out of bytes, did not
+/// come to its end.
 #[derive(Clone, Copy, Debug, PartialEq, Eq, Error)]
 pub enum SyncFault {
     /// The talk stopped.

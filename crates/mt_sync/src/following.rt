@@ -5,8 +5,9 @@ use mt_opcodec::{Log, Run};
 use mt_stamp::Replica;
 use std::alloc::Allocator;
 
-// Operations are few beside a log where it has so many times as many: taking one by one costs up to 25 microseconds for each of them, and
-// joining them as a whole 1 to 1.6 for each operation of the log.
+// Operations are few beside a log where it has so many times as many: taking one by one costs up to
+// 25 microseconds for each of them, and joining them as a whole 1 to 1.6 for each operation of the
+// log.
 const FEW: usize = 16;
 
 // A replica's run among those of a log.
@@ -29,8 +30,9 @@ fn follows<A: Allocator>(log: &Log<A>, op: &Op<A>) -> bool {
     }
 }
 
-// Whether operations are few beside those of a log and all go at the ends of its runs: then taking them one by one moves nothing that
-// stands in the log, and costs less than a look at all of it. Nothing but time hangs on the answer.
+// Whether operations are few beside those of a log and all go at the ends of its runs: then taking
+// them one by one moves nothing that stands in the log, and costs less than a look at all of it.
+// Nothing but time hangs on the answer.
 pub(crate) fn are_few_at_ends<A: Allocator>(log: &Log<A>, ops: &[Op<A>]) -> bool {
     ops.len() <= log.len() / FEW && ops.iter().all(|op| follows(log, op))
 }

@@ -40,8 +40,8 @@ impl<A: Allocator, S: Sessions> HasLog<A> for EditorCore<A, S> {
     }
 }
 
-/// Whoever takes part in a conversation: it lends the log that it has, and takes the operations of a message. An editor, or a log
-/// that grows.
+/// Whoever takes part in a conversation: it lends the log that it has, and takes the operations of
+/// a message. An editor, or a log that grows.
 pub trait OpStore<A: Allocator> {
     /// The set of its operations; none where it has failed.
     ghost held: { Self → Option LogMap };
@@ -56,8 +56,8 @@ pub trait OpStore<A: Allocator> {
     /// Whether its operations are in one log, which it can lend.
     ghost whole: { Self → Bool };
 
-    /// Brings its operations into one log. `AllocError` where they were not in one and an allocation failed: then it is as it was, or has
-    /// failed.
+    /// Brings its operations into one log. `AllocError` where they were not in one and an
+    /// allocation failed: then it is as it was, or has failed.
     fn compact(&mut self) -> Result<(), AllocError>
         ensures whole { OnOk result (whole self.new ≡ true) }
         ensures held { OnOk result (held self.new ≡ held self.old) }
@@ -70,9 +70,10 @@ pub trait OpStore<A: Allocator> {
         requires whole { whole self.now ≡ true }
         ensures log { option_copied result ≡ held self.now };
 
-    /// Takes operations that rise by dot out of a list, up to the first whose dot names another one there; what is left of the list is
-    /// nobody's. Refused as `Failed` (20) where it has failed, as `Conflict` (17) with that dot, and as `Memory` (0) where an allocation
-    /// failed: then it has failed.
+    /// Takes operations that rise by dot out of a list, up to the first whose dot names another one
+    /// there; what is left of the list is nobody's. Refused as `Failed` (20) where it has failed,
+    /// as `Conflict` (17) with that dot, and as `Memory` (0) where an allocation failed: then it
+    /// has failed.
     fn take_all(&mut self, alloc: &A, ops: &mut Vec<Op<A>, A>) -> Result<(), TalkFault>
         requires rising { AreLogged ops.old.items }
         ensures takes { TakesIn (held self.old) ops.old.items result (held self.new) }

@@ -17,7 +17,8 @@ use mt_stamp::Dot;
 use std::alloc::{AllocError, Allocator};
 use std::mem;
 
-// Whether a log or one of others, every two of which agree, has another operation under this one's dot.
+// Whether a log or one of others, every two of which agree, has another operation under this one's
+// dot.
 fn have_another<A: Allocator>(log: &Log<A>, others: &[Log<A>], op: &Op<A>) -> bool
     requires agree { PairsAgree (log.now ∷ others.now) }
     ensures { HasConflict (union_all (log.now ∷ others.now)) op.now result }
@@ -37,8 +38,8 @@ fn have_another<A: Allocator>(log: &Log<A>, others: &[Log<A>], op: &Op<A>) -> bo
     false
 }
 
-// Cuts operations, which rise by dot, before the first whose dot names another one in a log or in others, every two of which agree, and
-// gives that dot: what is left agrees with them.
+// Cuts operations, which rise by dot, before the first whose dot names another one in a log or in
+// others, every two of which agree, and gives that dot: what is left agrees with them.
 pub(crate) fn cut_at_conflict<A: Allocator>(
     log: &Log<A>,
     others: &[Log<A>],
@@ -93,7 +94,8 @@ fn replace<A: Allocator + Clone>(
     editor: &mut Editor<A>,
     log: Log<A>,
 ) -> Result<(), AllocError>
-    ensures ok { OnOk result (editor.new ≡ record { name = editor.old.name; log = Some log; joins = 0 }) }
+    ensures ok { OnOk result (editor.new ≡ record { name = editor.old.name; log = Some log; joins =
+        0 }) }
     ensures kept { OnErr result (editor.new ≡ editor.old) }
 {
     match Editor::from_log(alloc.clone()?, editor.name(), log) {
@@ -105,8 +107,9 @@ fn replace<A: Allocator + Clone>(
     }
 }
 
-// The operations of a message, which rise by dot, join the editor's log, up to the first whose dot names another one there. Those
-// before it are joined as a whole, replica by replica, and the session is worked out once.
+// The operations of a message, which rise by dot, join the editor's log, up to the first whose dot
+// names another one there. Those before it are joined as a whole, replica by replica, and the
+// session is worked out once.
 pub(crate) fn join_ops<A: Allocator + Clone>(
     alloc: &A,
     editor: &mut Editor<A>,

@@ -1,7 +1,7 @@
 //! Conversations in which two holders of operations swap exactly those that the other lacks.
 //!
-//! A `Talk` is one end of a conversation: it reads the other end's bytes, in pieces that are cut anywhere, and answers what to send back. Here
-//! the bytes go from one to the other in memory:
+//! A `Talk` is one end of a conversation: it reads the other end's bytes, in pieces that are cut
+//! anywhere, and answers what to send back. Here the bytes go from one to the other in memory:
 //!
 //! ```rust
 //! use mt_op::Title;
@@ -29,14 +29,17 @@
 //! }
 //! ```
 //!
-//! The first allocator is for what is answered, the second for the bytes of a frame that is not whole. `feed` refuses a length over
-//! 8,388,608 bytes (40), a body that is no message (38), a message that is not due (39), a conflict (17), a holder that has failed (20) and
-//! want of memory (0). The holder then has its own operations and those before the fault, or has failed where memory ran out while
-//! operations joined, and the talk answers 39 from then on. `converse` does all this over a reader and a writer, `exchange` in memory,
-//! and `have_bytes`, `lack_bytes` and `take_ops` with bytes that are carried by hand.
+//! The first allocator is for what is answered, the second for the bytes of a frame that is not
+//! whole. `feed` refuses a length over 8,388,608 bytes (40), a body that is no message (38), a
+//! message that is not due (39), a conflict (17), a holder that has failed (20) and want of memory
+//! (0). The holder then has its own operations and those before the fault, or has failed where
+//! memory ran out while operations joined, and the talk answers 39 from then on. `converse` does
+//! all this over a reader and a writer, `exchange` in memory, and `have_bytes`, `lack_bytes` and
+//! `take_ops` with bytes that are carried by hand.
 //!
-//! Who takes part is a `Holder`: an `Editor`, which shows its session at each step, or a `LogBuilder`, which makes none: operations that come
-//! stand behind those that it has until its log is asked for. `HasLog` is whoever has a log to lend: a `Log`, a draft or an editor.
+//! Who takes part is a `Holder`: an `Editor`, which shows its session at each step, or a
+//! `LogBuilder`, which makes none: operations that come stand behind those that it has until its
+//! log is asked for. `HasLog` is whoever has a log to lend: a `Log`, a draft or an editor.
 #![tactic(auto)]
 
 mod by_files;

@@ -1,6 +1,7 @@
 //! A log that grows by the operations of messages.
 
-ghost use Rattle.std.specs.Prelude.{◌≡◌, ◌≢◌, ◌≤◌, ◌↔◌, ◌++◌, ◌∷◌, [], length, true, false, IfOk, IfErr, IsErrOf, OnOk, OnErr, Ok, Some, None};
+ghost use Rattle.std.specs.Prelude.{◌≡◌, ◌≢◌, ◌≤◌, ◌↔◌, ◌++◌, ◌∷◌, [], length, true, false, IfOk};
+ghost use Rattle.std.specs.Prelude.{IfErr, IsErrOf, OnOk, OnErr, Ok, Some, None};
 ghost use Rattle.mt_opcodec.specs.LogValue.{AreLogged};
 ghost use Rattle.mt_opcodec.specs.Laws.{PairsAgree};
 ghost use Rattle.std.specs.Option.{option_copied};
@@ -15,11 +16,12 @@ use mt_opcodec::Log;
 use std::alloc::{AllocError, Allocator, Global};
 use std::marker::Model;
 
-/// A log that grows by the operations of messages, in however many messages they come: seen as their set, and as nothing where it has
-/// failed, as it has once an allocation failed.
+/// A log that grows by the operations of messages, in however many messages they come: seen as
+/// their set, and as nothing where it has failed, as it has once an allocation failed.
 ///
-/// What a message brings is kept beside what is there, and joined with what came last where that is no more than twice as much: so n
-/// operations are moved log n times each, and what is there is moved once, when it is asked for.
+/// What a message brings is kept beside what is there, and joined with what came last where that is
+/// no more than twice as much: so n operations are moved log n times each, and what is there is
+/// moved once, when it is asked for.
 #[derive(Drop)]
 pub struct LogBuilder<A: Allocator = Global> {
     logs: Vec<Log<A>, A>,
@@ -53,7 +55,8 @@ fn push_log<A: Allocator>(logs: &mut Vec<Log<A>, A>, log: Log<A>) -> Result<(), 
     }
 }
 
-// Whether a log is to be joined with the last of others: where that is no more than twice as long, or all are to be one.
+// Whether a log is to be joined with the last of others: where that is no more than twice as long,
+// or all are to be one.
 fn goes_with_last<A: Allocator>(logs: &[Log<A>], log: &Log<A>, all: bool) -> bool
     ensures { all ≡ true → result ≡ false → logs.now ≡ [] }
 {
@@ -63,7 +66,8 @@ fn goes_with_last<A: Allocator>(logs: &[Log<A>], log: &Log<A>, all: bool) -> boo
     }
 }
 
-// Puts a log behind others with which it agrees, joined with the last of them while it goes with that. Where memory runs out none is left.
+// Puts a log behind others with which it agrees, joined with the last of them while it goes with
+// that. Where memory runs out none is left.
 fn put_behind<A: Allocator + Clone>(
     logs: &mut Vec<Log<A>, A>,
     more: Log<A>,
@@ -91,7 +95,8 @@ fn put_behind<A: Allocator + Clone>(
     push_log(logs, last)
 }
 
-// Joins logs of which every two agree into one, where there is any. Where memory runs out none is left.
+// Joins logs of which every two agree into one, where there is any. Where memory runs out none is
+// left.
 fn join_into_one<A: Allocator + Clone>(logs: &mut Vec<Log<A>, A>) -> Result<(), AllocError>
     requires agree { PairsAgree logs.old.items }
     ensures agree { PairsAgree logs.new.items }
@@ -119,7 +124,8 @@ impl<A: Allocator + Clone> LogBuilder<A> {
         Ok(LogBuilder { logs })
     }
 
-    /// The log that it has grown to. Refused as `Failed` (20) where it has failed, and as `Memory` (0) where an allocation failed.
+    /// The log that it has grown to. Refused as `Failed` (20) where it has failed, and as `Memory`
+    /// (0) where an allocation failed.
     pub fn into_log(self) -> Result<Log<A>, TalkFault>
         ensures ok { IfOk result (λ log. self.set ≡ Some log) }
         ensures failed { IsErrOf result TalkFault.Failed ↔ (self.set ≡ None) }
@@ -167,8 +173,9 @@ impl<A: Allocator + Clone> OpStore<A> for LogBuilder<A> {
     }
 }
 
-// The operations of a message, which rise by dot, join logs of which every two agree, up to the first whose dot names another one there.
-// Where memory runs out no log is left, as where there was none.
+// The operations of a message, which rise by dot, join logs of which every two agree, up to the
+// first whose dot names another one there. Where memory runs out no log is left, as where there was
+// none.
 fn take_all_in_logs<A: Allocator + Clone>(
     alloc: &A,
     logs: &mut Vec<Log<A>, A>,

@@ -21,7 +21,8 @@ pub(crate) fn put_have<A: Allocator + Clone, B: Allocator>(
     log: &Log<B>,
     out: &mut Vec<u8, A>,
 ) -> Result<(), TalkFault>
-    ensures { Says (can_say (summary_of log.now)) result (frame_text (have_text (summary_of log.now)))
+    ensures { Says (can_say (summary_of log.now)) result
+        (frame_text (have_text (summary_of log.now)))
         out.old.items out.new.items }
 {
     let Ok(summary) = Summary::of(alloc.clone()?, log) else {
@@ -61,7 +62,8 @@ pub(crate) fn put_greeting<A: Allocator + Clone, B: Allocator, H: OpStore<A>>(
     summary: &Summary<B>,
     out: &mut Vec<u8, A>,
 ) -> Result<(), TalkFault>
-    ensures replies { Replies (greets_back (H.held holder.old) summary.now) result (H.held holder.new)
+    ensures replies { Replies (greets_back (H.held holder.old) summary.now) result
+        (H.held holder.new)
         out.old.items out.new.items }
     ensures left { StaysOrFails (H.held holder.old) (H.held holder.new) }
     ensures name { H.named holder.new ≡ H.named holder.old }
@@ -82,7 +84,8 @@ pub(crate) fn put_farewell<A: Allocator + Clone, B: Allocator, H: OpStore<A>>(
     summary: &Summary<B>,
     out: &mut Vec<u8, A>,
 ) -> Result<(), TalkFault>
-    ensures replies { Replies (answers_back (H.held holder.old) summary.now) result (H.held holder.new)
+    ensures replies { Replies (answers_back (H.held holder.old) summary.now) result
+        (H.held holder.new)
         out.old.items out.new.items }
     ensures left { StaysOrFails (H.held holder.old) (H.held holder.new) }
     ensures name { H.named holder.new ≡ H.named holder.old }

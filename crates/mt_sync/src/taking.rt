@@ -56,8 +56,9 @@ fn take_each<A: Allocator + Clone>(
     Ok(())
 }
 
-// The operations of a message, which rise by dot, join the editor's log, up to the first whose dot names another one there: one by
-// one where that is less work, else as a whole. Where memory runs out the editor has failed, as after a take that was refused memory.
+// The operations of a message, which rise by dot, join the editor's log, up to the first whose dot
+// names another one there: one by one where that is less work, else as a whole. Where memory runs
+// out the editor has failed, as after a take that was refused memory.
 pub(crate) fn take_all_in_editor<A: Allocator + Clone>(
     alloc: &A,
     editor: &mut Editor<A>,

@@ -1,12 +1,15 @@
 //! One end of a conversation.
 
-ghost use Rattle.std.specs.Prelude.{◌≡◌, ◌<◌, ℕ, [], ◌↔◌, IsTrue, IfOk, IfErr, Ok, Err, slice_index};
+ghost use Rattle.std.specs.Prelude.{◌≡◌, ◌<◌, ℕ, [], ◌↔◌, IsTrue, IfOk, IfErr, Ok, Err};
+ghost use Rattle.std.specs.Prelude.{slice_index};
 ghost use Rattle.sync_framing.specs.Frames.{frame_text};
 ghost use Rattle.sync_messages.specs.Summary.{summary_of};
 ghost use Rattle.sync_messages.specs.Messages.{have_text, IsMessage};
 ghost use Rattle.sync_messages.specs.Reading.{message_of};
-ghost use Rattle.mt_sync.specs.Conversation.{ended, awaits_have, awaits_ops, receives_message, body_in};
-ghost use Rattle.mt_sync.specs.Feeding.{turn_of, IsOpen, IsGoing, Waits, end_at, end_of, ReadsBody, Receives, Feeds, IsFaultOf, over_at, Calls};
+ghost use Rattle.mt_sync.specs.Conversation.{ended, awaits_have, awaits_ops, receives_message};
+ghost use Rattle.mt_sync.specs.Conversation.{body_in};
+ghost use Rattle.mt_sync.specs.Feeding.{turn_of, IsOpen, IsGoing, Waits, end_at, end_of, ReadsBody};
+ghost use Rattle.mt_sync.specs.Feeding.{Receives, Feeds, IsFaultOf, over_at, Calls};
 ghost use Rattle.mt_sync.specs.Leaving.{IsLeft, StaysOrFails};
 
 use crate::fault::{Side, TalkFault};
@@ -20,11 +23,12 @@ use sync_framing::{FrameFault, Unread};
 use sync_messages::laws::texts;
 use sync_messages::{Message, MessageFault};
 
-/// One end of a conversation, which reads the other end's bytes in pieces that are cut anywhere and answers what to send back.
+/// One end of a conversation, which reads the other end's bytes in pieces that are cut anywhere and
+/// answers what to send back.
 ///
-/// The caller tells its summary. The answerer answers with its own, the operations that the caller lacks, and Bye. The caller takes
-/// those operations and answers Bye with the operations that the answerer lacks, and Bye; then it has ended. The answerer takes
-/// those, and has ended at Bye.
+/// The caller tells its summary. The answerer answers with its own, the operations that the caller
+/// lacks, and Bye. The caller takes those operations and answers Bye with the operations that the
+/// answerer lacks, and Bye; then it has ended. The answerer takes those, and has ended at Bye.
 #[derive(Drop)]
 pub struct Talk<A: Allocator = Global> {
     turn: Turn<A>,
@@ -55,9 +59,10 @@ impl<A: Allocator + Clone> Talk<A> {
         }
     }
 
-    /// The caller's end, and the bytes that begin the conversation: the frame of its summary. `frames` is where the bytes of a frame that
-    /// is not whole are kept. Refused, in this order, as `Failed` (20) where the holder has failed and as `FrameTooLong`
-    /// (40) where its summary does not fit a frame; as `Memory` (0) where an allocation failed.
+    /// The caller's end, and the bytes that begin the conversation: the frame of its summary.
+    /// `frames` is where the bytes of a frame that is not whole are kept. Refused, in this order,
+    /// as `Failed` (20) where the holder has failed and as `FrameTooLong` (40) where its summary
+    /// does not fit a frame; as `Memory` (0) where an allocation failed.
     pub fn call<H: HasLog<A>>(
         alloc: A,
         frames: Global,
@@ -81,31 +86,36 @@ impl<A: Allocator + Clone> Talk<A> {
         Talk::waiting(alloc, frames, Turn::AwaitsHave(Side::Answerer))
     }
 
-    /// Whether the conversation has come to its end: the other end's Bye was read, and answered where that is this end's to do. A
-    /// talk that has met a fault has not ended.
+    /// Whether the conversation has come to its end: the other end's Bye was read, and answered
+    /// where that is this end's to do. A talk that has met a fault has not ended.
     pub fn ended(&self) -> bool
         ensures { IsTrue result ↔ (self.now.turn ≡ ended) }
     {
         matches!(self.turn, Turn::Ended)
     }
 
-    /// Reads a piece of the other end's bytes, and answers the bytes to send back. Operations join the holder's log frame by
-    /// frame. An editor takes those of a frame one by one where the log has at least 16 times as many, and where each of them has a greater number
-    /// than those of its replica there; so such a frame costs what it brings. Others join as a whole: the editor is then made anew of
-    /// its log, and counts its joins from 0. A log that grows puts those of a frame behind those that it has.
+    /// Reads a piece of the other end's bytes, and answers the bytes to send back. Operations join
+    /// the holder's log frame by frame. An editor takes those of a frame one by one where the log
+    /// has at least 16 times as many, and where each of them has a greater number than those of its
+    /// replica there; so such a frame costs what it brings. Others join as a whole: the editor is
+    /// then made anew of its log, and counts its joins from 0. A log that grows puts those of a
+    /// frame behind those that it has.
     ///
-    /// Refused as `OutOfTurn` (39) after a fault, and after the end for a piece that is not empty. Then frame by frame:
-    /// `FrameTooLong` (40) where its length is over 8,388,608, before the body is looked at; `BadMessage` (38) where the body is no message;
-    /// `OutOfTurn` (39) where nobody waits for that message; `Failed` (20) where the holder has failed and its log is
-    /// needed; `Conflict` (17) where an operation's dot names another one in the log; `FrameTooLong` (40) where the own
-    /// summary does not fit a frame. `Memory` (0) where an allocation failed. After a fault the holder has its own operations and those before
-    /// the fault, and the talk answers 39 from then on; where an allocation failed while operations joined, the holder has failed.
+    /// Refused as `OutOfTurn` (39) after a fault, and after the end for a piece that is not empty.
+    /// Then frame by frame: `FrameTooLong` (40) where its length is over 8,388,608, before the body
+    /// is looked at; `BadMessage` (38) where the body is no message; `OutOfTurn` (39) where nobody
+    /// waits for that message; `Failed` (20) where the holder has failed and its log is needed;
+    /// `Conflict` (17) where an operation's dot names another one in the log; `FrameTooLong` (40)
+    /// where the own summary does not fit a frame. `Memory` (0) where an allocation failed. After a
+    /// fault the holder has its own operations and those before the fault, and the talk answers 39
+    /// from then on; where an allocation failed while operations joined, the holder has failed.
     pub fn feed<H: OpStore<A>>(
         &mut self,
         holder: &mut H,
         piece: &[u8],
     ) -> Result<Vec<u8, A>, TalkFault>
-        ensures receives { Feeds (λ out. out.items) (end_of self.old (H.held holder.old)) piece.now result
+        ensures receives { Feeds (λ out. out.items) (end_of self.old (H.held holder.old)) piece.now
+            result
             (end_of self.new (H.held holder.new)) }
         ensures left { IfErr result (λ fault. fault ≡ TalkFault.Memory
             → IsLeft (end_of self.old (H.held holder.old)) piece.now (H.held holder.new)) }
@@ -135,7 +145,8 @@ fn receive_all<A: Allocator + Clone, H: OpStore<A>>(
 ) -> Result<Vec<u8, A>, TalkFault>
     requires going { IsGoing (turn_of turn.old) }
     requires waits { Waits (turn_of turn.old) unread.old }
-    ensures receives { Receives (λ out. out.items) (end_at (turn_of turn.old) unread.old (H.held holder.old)) piece.now result
+    ensures receives { Receives (λ out. out.items) (end_at (turn_of turn.old) unread.old
+        (H.held holder.old)) piece.now result
         (end_at (turn_of turn.new) unread.new (H.held holder.new)) }
     ensures name { H.named holder.new ≡ H.named holder.old }
 {
@@ -158,7 +169,8 @@ fn receive<A: Allocator + Clone, H: OpStore<A>>(
     requires going { IsGoing (turn_of turn.old) }
     requires waits { Waits (turn_of turn.old) unread.old }
     requires empty { out.old.items ≡ [] }
-    ensures receives { Receives (λ _. out.new.items) (end_at (turn_of turn.old) unread.old (H.held holder.old)) piece.now result
+    ensures receives { Receives (λ _. out.new.items) (end_at (turn_of turn.old) unread.old
+        (H.held holder.old)) piece.now result
         (end_at (turn_of turn.new) unread.new (H.held holder.new)) }
     ensures name { H.named holder.new ≡ H.named holder.old }
 {
@@ -181,7 +193,8 @@ fn receive_frames<A: Allocator + Clone, H: OpStore<A>>(
     requires reads { IsOpen (turn_of turn.old) }
     requires waits { Waits (turn_of turn.old) unread.old }
     requires empty { out.old.items ≡ [] }
-    ensures receives { Receives (λ _. out.new.items) (end_at (turn_of turn.old) unread.old (H.held holder.old)) piece.now result
+    ensures receives { Receives (λ _. out.new.items) (end_at (turn_of turn.old) unread.old
+        (H.held holder.old)) piece.now result
         (end_at (turn_of turn.new) unread.new (H.held holder.new)) }
     ensures name { H.named holder.new ≡ H.named holder.old }
 {
@@ -260,7 +273,8 @@ fn take_message<A: Allocator + Clone, H: OpStore<A>>(
 ) -> Result<(), TalkFault>
     requires open { IsOpen (turn_of turn.old) }
     requires sound { IsMessage (message_of message) }
-    ensures receives { ReadsBody (receives_message (turn_of turn.old) (message_of message) (H.held holder.old)) result
+    ensures receives { ReadsBody (receives_message (turn_of turn.old) (message_of message)
+        (H.held holder.old)) result
         (end_at (turn_of turn.new) [] (H.held holder.new)) out.old.items out.new.items }
     ensures left { IfErr result (λ fault. fault ≡ TalkFault.Memory
         → StaysOrFails (H.held holder.old) (H.held holder.new)) }

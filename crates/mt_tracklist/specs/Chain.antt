@@ -14,4 +14,5 @@ has items place = list_any (λ x. place == x) items
 -- a place put right after another, and at the end where that one is missing
 abbrev pub put_after : ℕ → ℕ → List ℕ → List ℕ
 put_after before place [] = place ∷ []
-put_after before place (x ∷ xs) = cond (x == before) (x ∷ place ∷ xs) (x ∷ put_after before place xs)
+put_after before place (x ∷ xs) = cond (x == before) (x ∷ place ∷ xs)
+    (x ∷ put_after before place xs)

@@ -13,7 +13,8 @@ same_after _ _ = false
 
 -- whether two elements have the same place, put after the same one, of the same track
 abbrev pub same_placed : Placed → Placed → Bool
-same_placed a b = stamp_eq a.place b.place && (same_after a.after b.after && stamp_eq a.track b.track)
+same_placed a b = stamp_eq a.place b.place && (same_after a.after b.after
+    && stamp_eq a.track b.track)
 
 -- Elements that pass the test are one, and each passes it with itself.
 
@@ -44,9 +45,12 @@ pub placed_itself : (a : Placed) → same_placed a a ≡ true
 placed_itself a = rw (stamp_eq-itself a.place, after_itself a.after, stamp_eq-itself a.track) refl
 
 pub same_placed_equiv : IsEquivalence same_placed
-same_placed_equiv = record { refl = placed_itself; symm = λ a b. symm a b (same_placed a b) (same_placed b a) refl refl; congr = λ a b c e. ap (λ (d : Placed). same_placed d c) (placed_true a b e) }
+same_placed_equiv = record { refl = placed_itself; symm = λ a b. symm a b (same_placed a b)
+    (same_placed b a) refl refl; congr = λ a b c e. ap (λ (d : Placed). same_placed d c)
+    (placed_true a b e) }
   where
     symm : (a b : Placed) (x y : Bool) → same_placed a b ≡ x → same_placed b a ≡ y → x ≡ y
     symm a b true y e f = sym (placed_itself b) ∙ ap (same_placed b) (sym (placed_true a b e)) ∙ f
-    symm a b false true e f = absurd (true≢false (sym (placed_itself a) ∙ ap (same_placed a) (sym (placed_true b a f)) ∙ e))
+    symm a b false true e f = absurd (true≢false (sym (placed_itself a)
+        ∙ ap (same_placed a) (sym (placed_true b a f)) ∙ e))
     symm a b false false e f = refl

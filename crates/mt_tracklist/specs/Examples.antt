@@ -15,12 +15,15 @@ abbrev pub after_a : Stamp → Placed
 after_a p = placed p (Some a)
 
 -- the order of the four places is z a y x, whichever comes first
-pub rising : inserted (inserted (inserted (inserted [] (at_head a)) (after_a x)) (after_a y)) (at_head z) ≡ at_head z ∷ at_head a ∷ after_a y ∷ after_a x ∷ []
+pub rising : inserted (inserted (inserted (inserted [] (at_head a)) (after_a x)) (after_a y))
+    (at_head z) ≡ at_head z ∷ at_head a ∷ after_a y ∷ after_a x ∷ []
 rising = refl
 
-pub x_after_y : inserted (inserted (inserted (inserted [] (at_head z)) (at_head a)) (after_a y)) (after_a x) ≡ at_head z ∷ at_head a ∷ after_a y ∷ after_a x ∷ []
+pub x_after_y : inserted (inserted (inserted (inserted [] (at_head z)) (at_head a)) (after_a y))
+    (after_a x) ≡ at_head z ∷ at_head a ∷ after_a y ∷ after_a x ∷ []
 x_after_y = refl
 
 -- what is under a greater sibling is skipped with it
-pub past_all_under_it : inserted (at_head a ∷ after_a y ∷ placed (stamp 4 10 3) (Some y) ∷ []) (after_a x) ≡ at_head a ∷ after_a y ∷ placed (stamp 4 10 3) (Some y) ∷ after_a x ∷ []
+pub past_all_under_it : inserted (at_head a ∷ after_a y ∷ placed (stamp 4 10 3) (Some y) ∷ [])
+    (after_a x) ≡ at_head a ∷ after_a y ∷ placed (stamp 4 10 3) (Some y) ∷ after_a x ∷ []
 past_all_under_it = refl

@@ -1,7 +1,8 @@
 -- The number of each refusal.
 use Rattle.std.specs.Prelude.{ℕ}
 use Rattle.mt_tracklist.specs.declared.fault.TrackListFault.{TrackListFault}
-use Rattle.mt_tracklist.specs.declared.fault.TrackListFault.TheVariants.{Memory, NoSuchPlace, PlaceThere}
+use Rattle.mt_tracklist.specs.declared.fault.TrackListFault.TheVariants.{Memory, NoSuchPlace}
+use Rattle.mt_tracklist.specs.declared.fault.TrackListFault.TheVariants.{PlaceThere}
 
 abbrev pub number_of : TrackListFault → ℕ
 number_of Memory = 0

@@ -1,5 +1,6 @@
 -- Lists that are kept as links from each place to the next.
-use Rattle.std.specs.Prelude.{◌≡◌, ℕ, zero, suc, ◌<◌, List, [], ◌∷◌, length, Option, Some, None, nat_eq, slice_index_or}
+use Rattle.std.specs.Prelude.{◌≡◌, ℕ, zero, suc, ◌<◌, List, [], ◌∷◌, length, Option, Some, None}
+use Rattle.std.specs.Prelude.{nat_eq, slice_index_or}
 use Rattle.std.specs.List.{IsDistinct}
 
 -- the places from a start on, at most n of them
@@ -11,7 +12,8 @@ spelled (suc n) next (Some x) = x ∷ spelled n next (slice_index_or next x None
 -- the links from a start on lead through these places, and then nowhere
 abbrev pub Spells : List (Option ℕ) → Option ℕ → List ℕ → Type 0
 Spells next start [] = start ≡ None
-Spells next start (x ∷ xs) = (start ≡ Some x) × (x < length next) × Spells next (slice_index_or next x None) xs
+Spells next start (x ∷ xs) = (start ≡ Some x) × (x < length next)
+    × Spells next (slice_index_or next x None) xs
 
 -- the links from the first place on end, and meet no place twice
 pub record IsChain (next : List (Option ℕ)) (first : Option ℕ) : Type 0 where

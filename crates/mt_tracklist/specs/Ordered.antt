@@ -1,4 +1,5 @@
--- A list of places in the order of their tree (a flat list in the place of the tree of RGA: INRIA RR-7506, section 3.5).
+-- A list of places in the order of their tree (a flat list in the place of the tree of RGA: INRIA
+-- RR-7506, section 3.5).
 use Rattle.std.specs.Prelude.{◌≡◌, Bool, List, map, Option, Some, None}
 use Rattle.std.specs.List.{list_any}
 use Rattle.std.specs.List.Sorted.{IsStrictlySortedBy}

@@ -14,7 +14,8 @@ given_tree places = map given_place places
 
 -- the place at an index, and one at the head where there is none
 abbrev pub place_at : List TreePlace → ℕ → TreePlace
-place_at places index = slice_index_or places index (record { place = record { clock = 0; replica = record { 0 = 0 }; seq = 0 }; after = None })
+place_at places index = slice_index_or places index
+    (record { place = record { clock = 0; replica = record { 0 = 0 }; seq = 0 }; after = None })
 
 -- its stamp
 abbrev pub stamp_at : List TreePlace → ℕ → Stamp
@@ -23,4 +24,5 @@ stamp_at places index = (place_at places index).place
 -- an index put in front, or right after that of the place of a stamp
 abbrev pub IsPut : List TreePlace → Option Stamp → ℕ → List ℕ → List ℕ → Type 0
 IsPut places None index before after = after ≡ index ∷ before
-IsPut places (Some p) index before after = (there : IsPlaceOf places p) → after ≡ put_after there.index index before
+IsPut places (Some p) index before after = (there : IsPlaceOf places p) → after
+    ≡ put_after there.index index before

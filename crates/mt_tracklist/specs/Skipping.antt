@@ -1,5 +1,6 @@
 -- Where a place is put into a list of places.
-use Rattle.std.specs.Prelude.{◌≡◌, ℕ, ◌+◌, true, false, List, drop, insert, slice_get, Option, Some, None}
+use Rattle.std.specs.Prelude.{◌≡◌, ℕ, ◌+◌, true, false, List, drop, insert, slice_get, Option, Some}
+use Rattle.std.specs.Prelude.{None}
 use Rattle.std.specs.List.{position_or_len}
 use Rattle.std.specs.Ordering.{is_lt}
 use Rattle.mt_stamp.specs.StampOrder.{Stamp, stamp_cmp, stamp_eq}
@@ -19,7 +20,8 @@ right_of list (Some reference) = index_in list reference + 1
 abbrev pub skipped : Stamp → List Placed → ℕ
 skipped place list = position_or_len (λ t. is_lt (stamp_cmp t.place place)) list
 
--- Where an insertion goes: right of its reference, past the elements up to the first with a smaller stamp.
+-- Where an insertion goes: right of its reference, past the elements up to the first with a smaller
+-- stamp.
 abbrev pub insertion_index : List Placed → Placed → ℕ
 insertion_index list t = right_of list t.after + skipped t.place (drop (right_of list t.after) list)
 
@@ -37,15 +39,19 @@ abbrev pub IsReferenceMissing : List Placed → Option Stamp → Type 0
 IsReferenceMissing list None = ⊥
 IsReferenceMissing list (Some reference) = has_place list reference ≡ false
 
--- Skipping to the first element with a smaller stamp is the order of the tree: a list that stands in it, with a place that is
--- new and newer than what it is put after, stands in the order of the tree that has this place too.
+-- Skipping to the first element with a smaller stamp is the order of the tree: a list that stands
+-- in it, with a place that is new and newer than what it is put after, stands in the order of the
+-- tree that has this place too.
 abbrev pub SkippingKeepsTheOrder : Type 0
-SkippingKeepsTheOrder = (list : List Placed) (t : Placed) → IsOrdered list → has_place list t.place ≡ false → IsReferenceThere list t.after → IsNewer t.place t.after → IsOrdered (inserted list t)
+SkippingKeepsTheOrder = (list : List Placed) (t : Placed) → IsOrdered list → has_place list t.place
+    ≡ false → IsReferenceThere list t.after → IsNewer t.place t.after → IsOrdered (inserted list t)
 
 -- every element of one list is in another
 abbrev pub HasElementsOf : List Placed → List Placed → Type 0
-HasElementsOf other one = (i : ℕ) (t : Placed) → slice_get one i ≡ Some t → (j : ℕ) × (slice_get other j ≡ Some t)
+HasElementsOf other one = (i : ℕ) (t : Placed) → slice_get one i ≡ Some t → (j : ℕ)
+    × (slice_get other j ≡ Some t)
 
 -- Two lists in the order of their trees with the same elements are one.
 abbrev pub ElementsTellTheList : Type 0
-ElementsTellTheList = (one other : List Placed) → IsOrdered one → IsOrdered other → HasElementsOf other one → HasElementsOf one other → one ≡ other
+ElementsTellTheList = (one other : List Placed) → IsOrdered one → IsOrdered other
+    → HasElementsOf other one → HasElementsOf one other → one ≡ other

@@ -6,7 +6,8 @@ ghost use Rattle.mt_tracklist.specs.Chain.{has, put_after};
 use std::alloc::{AllocError, Allocator};
 use std::marker::Model;
 
-/// A list of places below a count, no place twice, into which a place is put right after another in constant time.
+/// A list of places below a count, no place twice, into which a place is put right after another in
+/// constant time.
 #[derive(Drop)]
 pub(crate) struct Chain<A: Allocator> {
     first: Option<usize>,
@@ -20,7 +21,8 @@ impl<A: Allocator> Model for Chain<A> {
 
     ghost Value = { ChainList };
 
-    ghost view = { λ c. record { count = length c.next.items; items = spelled (length c.next.items) c.next.items c.first } };
+    ghost view = { λ c. record { count = length c.next.items; items = spelled (length c.next.items)
+        c.next.items c.first } };
 
     ghost invariant = { λ c. IsChain c.next.items c.first };
 }

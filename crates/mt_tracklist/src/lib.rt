@@ -1,9 +1,11 @@
-//! The flat list of places of tracks: each place is put after another one, or at the head, and two replicas that put in
-//! the same places, in whatever orders, hold the same list (RGA, the replicated growable array: INRIA RR-7506, section 3.5).
+//! The flat list of places of tracks: each place is put after another one, or at the head, and two
+//! replicas that put in the same places, in whatever orders, hold the same list (RGA, the
+//! replicated growable array: INRIA RR-7506, section 3.5).
 //!
-//! Places are a tree, whose parent is what a place was put after; the list is its walk: a place before those put after it, and
-//! these by falling stamp, each with all that is under it. The tree is not built. An insertion goes right of its reference, or
-//! to the front, and skips up to the first element with a smaller stamp:
+//! Places are a tree, whose parent is what a place was put after; the list is its walk: a place
+//! before those put after it, and these by falling stamp, each with all that is under it. The tree
+//! is not built. An insertion goes right of its reference, or to the front, and skips up to the
+//! first element with a smaller stamp:
 //!
 //! ```text
 //!        head                 z a y w x     insert v = 4 after a = 1, by stamps:
@@ -44,14 +46,16 @@
 //! }
 //! ```
 //!
-//! Why that is the walk: what is skipped is each sibling with a greater stamp and all that is under it, since a place is greater
-//! than the one that it was put after. And the skip never goes beyond: where the tree under the reference ends, the next
-//! element is a sibling of the reference or of a place above it, with a smaller stamp than these, so smaller than the new one.
-//! `laws::skipping` says so of every list.
+//! Why that is the walk: what is skipped is each sibling with a greater stamp and all that is under
+//! it, since a place is greater than the one that it was put after. And the skip never goes beyond:
+//! where the tree under the reference ends, the next element is a sibling of the reference or of a
+//! place above it, with a smaller stamp than these, so smaller than the new one. `laws::skipping`
+//! says so of every list.
 //!
-//! Of places that are given by rising stamp the order is made in one pass, without a skip (`order_of`): each place goes right after
-//! what it was put after, or to the front, in constant time once that is found. Every later stamp is greater, so whatever was put
-//! there before is smaller and stands behind it.
+//! Of places that are given by rising stamp the order is made in one pass, without a skip
+//! (`order_of`): each place goes right after what it was put after, or to the front, in constant
+//! time once that is found. Every later stamp is greater, so whatever was put there before is
+//! smaller and stands behind it.
 #![tactic(auto)]
 
 mod chain;

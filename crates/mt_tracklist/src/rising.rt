@@ -25,7 +25,8 @@ pub struct PlaceAfter {
 fn is_at(places: &[PlaceAfter], index: usize, stamp: Stamp) -> bool
     requires rising { RisesStrictly stamp_cmp (stamps_of (given_tree places.now)) }
     requires tree { IsTree (given_tree places.now) }
-    ensures { result ≡ true → (there : IsPlaceOf (given_tree places.now) stamp) → index ≡ there.index }
+    ensures { result ≡ true → (there : IsPlaceOf (given_tree places.now) stamp) → index
+        ≡ there.index }
 {
     match places.get(index) {
         Some(placed) => placed.place == stamp,
@@ -33,7 +34,8 @@ fn is_at(places: &[PlaceAfter], index: usize, stamp: Stamp) -> bool
     }
 }
 
-// The index of the place of a stamp: mostly the one before a given index, and else it is searched for.
+// The index of the place of a stamp: mostly the one before a given index, and else it is searched
+// for.
 fn index_of(places: &[PlaceAfter], stamp: Stamp, index: usize) -> Option<usize>
     requires rising { RisesStrictly stamp_cmp (stamps_of (given_tree places.now)) }
     requires tree { IsTree (given_tree places.now) }
@@ -59,7 +61,8 @@ fn link_place<A: Allocator>(
     requires tree { IsTree (given_tree places.now) }
     requires in_range { index < chain.old.count }
     requires new { has chain.old.items index ≡ false }
-    requires there { (p : Stamp) → after ≡ Some p → (there : IsPlaceOf (given_tree places.now) p) × (has chain.old.items there.index ≡ true) }
+    requires there { (p : Stamp) → after ≡ Some p → (there : IsPlaceOf (given_tree places.now) p)
+        × (has chain.old.items there.index ≡ true) }
     ensures count { chain.new.count ≡ chain.old.count }
     ensures items { IsPut (given_tree places.now) after index chain.old.items chain.new.items }
 {
@@ -72,18 +75,22 @@ fn link_place<A: Allocator>(
     }
 }
 
-/// The indexes of places that are given by rising stamp, in the order of their tree: each is put right after what it was put
-/// after, or in front, and so before all older ones that were put there. n places cost n log n, since what each was put after is
-/// searched for where that is not the one before it. Refused only where an allocation failed.
+/// The indexes of places that are given by rising stamp, in the order of their tree: each is put
+/// right after what it was put after, or in front, and so before all older ones that were put
+/// there. n places cost n log n, since what each was put after is searched for where that is not
+/// the one before it. Refused only where an allocation failed.
 pub fn order_of<A: Allocator + Clone>(
     alloc: &A,
     places: &[PlaceAfter],
 ) -> Result<Vec<usize, A>, AllocError>
     requires rising { RisesStrictly stamp_cmp (stamps_of (given_tree places.now)) }
     requires tree { IsTree (given_tree places.now) }
-    ensures below { IfOk result (λ order. (k p : ℕ) → slice_get order.items k ≡ Some p → p < length places.now) }
-    ensures all { IfOk result (λ order. (p : ℕ) → p < length places.now → has order.items p ≡ true) }
-    ensures sorted { IfOk result (λ order. IsStrictlySortedBy (tree_cmp (given_tree places.now)) (map (stamp_at (given_tree places.now)) order.items)) }
+    ensures below { IfOk result (λ order. (k p : ℕ) → slice_get order.items k ≡ Some p → p
+        < length places.now) }
+    ensures all { IfOk result (λ order. (p : ℕ) → p < length places.now → has order.items p ≡ true)
+        }
+    ensures sorted { IfOk result (λ order. IsStrictlySortedBy (tree_cmp (given_tree places.now))
+        (map (stamp_at (given_tree places.now)) order.items)) }
 {
     let mut chain = Chain::new(alloc.clone()?, places.len())?;
     for index in 0..places.len() {

@@ -1,9 +1,11 @@
 //! The list of places.
 
-ghost use Rattle.std.specs.Prelude.{◌≡◌, ◌+◌, ◌≤◌, [], true, false, drop, length, position, IfOk, IfErr, OnOk, OnErr, IsErrOf, MatchOption, IsTrue, ◌↔◌};
+ghost use Rattle.std.specs.Prelude.{◌≡◌, ◌+◌, ◌≤◌, [], true, false, drop, length, position, IfOk};
+ghost use Rattle.std.specs.Prelude.{IfErr, OnOk, OnErr, IsErrOf, MatchOption, IsTrue, ◌↔◌};
 ghost use Rattle.mt_stamp.specs.StampOrder.{stamp_eq};
 ghost use Rattle.mt_tracklist.specs.Ordered.{IsOrdered, IsNewer, has_place};
-ghost use Rattle.mt_tracklist.specs.Skipping.{inserted, skipped, right_of, IsReferenceThere, IsReferenceMissing};
+ghost use Rattle.mt_tracklist.specs.Skipping.{inserted, skipped, right_of, IsReferenceThere};
+ghost use Rattle.mt_tracklist.specs.Skipping.{IsReferenceMissing};
 
 use crate::fault::TrackListFault;
 use mt_stamp::Stamp;
@@ -21,7 +23,8 @@ pub struct Placed {
     pub track: Stamp,
 }
 
-/// Whether a place has a greater stamp than what it is to be put after, as an insertion asks; at the head it always has.
+/// Whether a place has a greater stamp than what it is to be put after, as an insertion asks; at
+/// the head it always has.
 pub fn is_newer(place: Stamp, after: Option<Stamp>) -> bool
     ensures { IsTrue result ↔ IsNewer place after }
 {
@@ -31,8 +34,9 @@ pub fn is_newer(place: Stamp, after: Option<Stamp>) -> bool
     }
 }
 
-/// A list of places in the order of their tree: each place stands before those put after it, and these by falling stamp, each
-/// with all that is under it. Which list it is depends on the places alone, in whatever order they came.
+/// A list of places in the order of their tree: each place stands before those put after it, and
+/// these by falling stamp, each with all that is under it. Which list it is depends on the places
+/// alone, in whatever order they came.
 #[derive(Drop)]
 pub struct TrackList<A: Allocator = Global> {
     places: Vec<Placed, A>,
@@ -76,17 +80,20 @@ impl<A: Allocator> TrackList<A> {
         &self.places
     }
 
-    /// Where a place stands in `order`, counted from 0, or `None` where it is not there. Looks at one element after another.
+    /// Where a place stands in `order`, counted from 0, or `None` where it is not there. Looks at
+    /// one element after another.
     pub fn index_of(&self, place: &Stamp) -> Option<usize>
         ensures { result ≡ position (λ t. stamp_eq t.place place.now) self.now }
     {
         self.places.iter().position(|placed| placed.place == *place)
     }
 
-    /// Puts a place of a track right of the place that it is put after, or in front for `None`, past the elements up to the
-    /// first with a smaller stamp, and leaves the others in their order. Refused, in this order: `PlaceThere` (19) where the
-    /// place is in the list, `NoSuchPlace` (18) where `after` is not; and as `Memory` (0) where an allocation failed. After
-    /// a refusal the list is unchanged. The place has to have a greater stamp than `after`, which `is_newer` tells.
+    /// Puts a place of a track right of the place that it is put after, or in front for `None`,
+    /// past the elements up to the first with a smaller stamp, and leaves the others in their
+    /// order. Refused, in this order: `PlaceThere` (19) where the place is in the list,
+    /// `NoSuchPlace` (18) where `after` is not; and as `Memory` (0) where an allocation failed.
+    /// After a refusal the list is unchanged. The place has to have a greater stamp than `after`,
+    /// which `is_newer` tells.
     pub fn insert(
         &mut self,
         place: Stamp,
@@ -94,10 +101,13 @@ impl<A: Allocator> TrackList<A> {
         track: Stamp,
     ) -> Result<(), TrackListFault>
         requires newer { IsNewer place after }
-        ensures put_in { OnOk result (self.new ≡ inserted self.old (record { place = place; after = after; track = track })) }
+        ensures put_in { OnOk result (self.new ≡ inserted self.old
+            (record { place = place; after = after; track = track })) }
         ensures ordered { IsOrdered self.new }
-        ensures place_there { IsErrOf result TrackListFault.PlaceThere ↔ (has_place self.old place ≡ true) }
-        ensures no_such_place { IsErrOf result TrackListFault.NoSuchPlace ↔ ((has_place self.old place ≡ false) × IsReferenceMissing self.old after) }
+        ensures place_there { IsErrOf result TrackListFault.PlaceThere
+            ↔ (has_place self.old place ≡ true) }
+        ensures no_such_place { IsErrOf result TrackListFault.NoSuchPlace
+            ↔ ((has_place self.old place ≡ false) × IsReferenceMissing self.old after) }
         ensures refused { OnErr result (self.new ≡ self.old) }
     {
         let placed = Placed {
@@ -116,7 +126,8 @@ impl<A: Allocator> TrackList<A> {
         Ok(())
     }
 
-    /// An equal list, on a clone of the allocator. Refused only as `Memory` (0), where an allocation failed.
+    /// An equal list, on a clone of the allocator. Refused only as `Memory` (0), where an
+    /// allocation failed.
     pub fn try_clone(&self) -> Result<Self, TrackListFault>
     where
         A: Clone,
@@ -139,7 +150,9 @@ fn has_place(places: &[Placed], place: Stamp) -> bool
 
 // Right of what a place is put after, or the front; `None` where that is not in the list.
 fn right_of(places: &[Placed], after: Option<Stamp>) -> Option<usize>
-    ensures { MatchOption result (IsReferenceMissing places.now after) (λ start. (start ≡ right_of places.now after) × IsReferenceThere places.now after × (start ≤ length places.now)) }
+    ensures { MatchOption result (IsReferenceMissing places.now after)
+        (λ start. (start ≡ right_of places.now after) × IsReferenceThere places.now after
+        × (start ≤ length places.now)) }
 {
     let Some(reference) = after else {
         return Some(0);
@@ -152,7 +165,8 @@ fn right_of(places: &[Placed], after: Option<Stamp>) -> Option<usize>
     None
 }
 
-// The index of the first element from `start` on with a smaller stamp; the list's length where there is none.
+// The index of the first element from `start` on with a smaller stamp; the list's length where
+// there is none.
 fn after_skipping(places: &[Placed], start: usize, place: Stamp) -> usize
     requires { start ≤ length places.now }
     ensures value { result ≡ start + skipped place (drop start places.now) }

@@ -40,8 +40,8 @@ For more information, try '--help'.
 // The failure of an allocation.
 const NO_MEMORY: &str = "radio: fault 0\n";
 
-// The words after the program's name. Those that are no text are an error of the kind `InvalidData`; every other error
-// is that memory was refused.
+// The words after the program's name. Those that are no text are an error of the kind
+// `InvalidData`; every other error is that memory was refused.
 fn words(rt: &HostRuntime) -> io::Result<Vec<String>> {
     let mut words = Vec::new(rt.alloc());
     for (place, word) in env::args(rt)?.enumerate() {

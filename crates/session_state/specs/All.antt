@@ -14,7 +14,9 @@ abbrev pub HoldsPlaces : {U : Type 0} → List Op → List (Stamp × U) → Type
 HoldsPlaces ops places = HoldsEach Place (λ item ops c. Unit {0}) ops places
 
 -- A working predicate: all that an `Items` holds.
-pub record HoldsAll {A U : Type 0} (ops : List Op) (t : List (Stamp × TrackCells A)) (c : List (Stamp × ClipCells A)) (m : List (Stamp × MarkerCells A)) (p : List (Stamp × U)) : Type 0 where
+pub record HoldsAll {A U : Type 0} (ops : List Op) (t : List (Stamp × TrackCells A))
+    (c : List (Stamp × ClipCells A)) (m : List (Stamp × MarkerCells A)) (p : List (Stamp × U)) :
+    Type 0 where
   pub applied : AreApplied ops
   pub tracks : HoldsTracks ops t
   pub clips : HoldsClips ops c

@@ -19,8 +19,8 @@ is_need_met ops need = list_any (meets need) ops
 abbrev pub are_needs_met : List Op → Op → Bool
 are_needs_met ops o = list_all (is_need_met ops) (needs o)
 
--- An operation may be noted after these: its stamp is new, and they meet its needs (delivery in causal order: INRIA
--- RR-7506, operation-based objects).
+-- An operation may be noted after these: its stamp is new, and they meet its needs (delivery in
+-- causal order: INRIA RR-7506, operation-based objects).
 pub record CanApply (ops : List Op) (o : Op) : Type 0 where
   pub fresh : is_applied ops o.stamp ≡ false
   pub met : are_needs_met ops o ≡ true
@@ -36,7 +36,9 @@ pub record Concerns (ops : List Op) (item : Stamp) (o : Op) : Type 0 where
   pub applied : is_applied ops item ≡ true
   pub follows : CanApply ops o
 
--- One pass over operations: each whose needs are met by those noted so far is noted, and the others are passed over.
+-- One pass over operations: each whose needs are met by those noted so far is noted, and the others
+-- are passed over.
 abbrev pub one_pass : List Op → List Op → List Op
 one_pass applied [] = applied
-one_pass applied (o ∷ rest) = if are_needs_met applied o then one_pass (o ∷ applied) rest else one_pass applied rest
+one_pass applied (o ∷ rest) = if are_needs_met applied o then one_pass (o ∷ applied) rest else
+    one_pass applied rest

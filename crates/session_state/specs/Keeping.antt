@@ -1,4 +1,5 @@
--- What an operation does to cells, and they still hold what the operations noted leave. Working predicates.
+-- What an operation does to cells, and they still hold what the operations noted leave. Working
+-- predicates.
 use Rattle.std.specs.Prelude.{List, ◌∷◌}
 use Rattle.mt_stamp.specs.StampOrder.{Stamp}
 use Rattle.mt_op.specs.OpValue.{Op}
@@ -6,12 +7,15 @@ use Rattle.session_state.specs.Applying.{CanApply, AreApplied, Concerns}
 
 -- cells made of an operation that adds its own item
 abbrev pub Makes : {C : Type 0} → (Stamp → List Op → C → Type 0) → Op → C → Type 0
-Makes Holds o made = (ops : List Op) → CanApply ops o → AreApplied ops → Holds o.stamp (o ∷ ops) made
+Makes Holds o made = (ops : List Op) → CanApply ops o → AreApplied ops
+    → Holds o.stamp (o ∷ ops) made
 
 -- the cells of an item before and after an operation on it
 abbrev pub Keeps : {C : Type 0} → (Stamp → List Op → C → Type 0) → Op → C → C → Type 0
-Keeps Holds o before after = (ops : List Op) (item : Stamp) → Concerns ops item o → Holds item ops before → Holds item (o ∷ ops) after
+Keeps Holds o before after = (ops : List Op) (item : Stamp) → Concerns ops item o
+    → Holds item ops before → Holds item (o ∷ ops) after
 
 -- the cells of all items of a kind before and after an operation
 abbrev pub KeepsAll : {M : Type 0} → (List Op → M → Type 0) → Op → M → M → Type 0
-KeepsAll Holds o before after = (ops : List Op) → CanApply ops o → AreApplied ops → Holds ops before → Holds (o ∷ ops) after
+KeepsAll Holds o before after = (ops : List Op) → CanApply ops o → AreApplied ops → Holds ops before
+    → Holds (o ∷ ops) after

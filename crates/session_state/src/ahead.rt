@@ -1,7 +1,8 @@
 //! Where the cells of the items of the next operations stand.
 //!
-//! The cells of a great log lie far apart, so that each look at some waits for the memory. Whoever looks for those of several operations at once waits for all of
-//! them together. Nothing here decides anything: what it tells is where to look first, and no clause speaks of it.
+//! The cells of a great log lie far apart, so that each look at some waits for the memory. Whoever
+//! looks for those of several operations at once waits for all of them together. Nothing here
+//! decides anything: what it tells is where to look first, and no clause speaks of it.
 
 use crate::cells::{ClipCells, MarkerCells};
 use crate::items::ItemStates;
@@ -15,8 +16,9 @@ pub const PREFETCH_DISTANCE: usize = 32;
 // An index at which no cells stand.
 pub(crate) const NO_HINT: usize = usize::MAX;
 
-// Whether what an operation changes of a marker is its own already. It is not, where the operation has yet to be noted; but to tell so, that part of the cells is
-// read, and is at hand when the operation is noted: of a title its first byte, which goes then.
+// Whether what an operation changes of a marker is its own already. It is not, where the operation
+// has yet to be noted; but to tell so, that part of the cells is read, and is at hand when the
+// operation is noted: of a title its first byte, which goes then.
 fn is_marker_changed<A: Allocator>(cells: &MarkerCells<A>, op: &Op<A>) -> bool {
     match op.body() {
         Body::MoveMarker { .. } => cells.position.stamp() == op.stamp(),
@@ -92,8 +94,9 @@ impl<A: Allocator> ItemStates<A> {
         }
     }
 
-    /// Where the cells of the items of the next operations stand, of at most `PREFETCH_DISTANCE` of these: where `are_needs_met_near` and `apply_near` look first. What the
-    /// operations change of these cells is read by then.
+    /// Where the cells of the items of the next operations stand, of at most `PREFETCH_DISTANCE` of
+    /// these: where `are_needs_met_near` and `apply_near` look first. What the operations change of
+    /// these cells is read by then.
     pub fn prefetch(&self, next: &[&Op<A>]) -> [usize; PREFETCH_DISTANCE] {
         let mut near = [NO_HINT; PREFETCH_DISTANCE];
         let count = PREFETCH_DISTANCE.min(next.len());

@@ -27,8 +27,8 @@ pub struct MarkerCells<A: Allocator> {
     pub presence: ItemPresence<A>,
 }
 
-/// The fields of a clip that are written more than once, each with the stamp of its last writer, its recording, and its
-/// presence.
+/// The fields of a clip that are written more than once, each with the stamp of its last writer,
+/// its recording, and its presence.
 #[derive(Drop)]
 pub struct ClipCells<A: Allocator> {
     /// Its track, and the frame of the session at which it begins.
@@ -63,12 +63,14 @@ pub struct TrackCells<A: Allocator> {
 }
 
 impl<A: Allocator> TrackCells<A> {
-    /// Takes the title out, and leaves an empty one in its place, which takes no memory. Refused only as `AllocError`; the cells are then as they were.
+    /// Takes the title out, and leaves an empty one in its place, which takes no memory. Refused
+    /// only as `AllocError`; the cells are then as they were.
     pub fn take_title(&mut self, alloc: &A) -> Result<Title<A>, AllocError>
     where
         A: Clone,
         ensures title { IfOk result (λ title. title ≡ self.old.title.value) }
-        ensures cells { OnOk result (self.new ≡ record { place = self.old.place; title = record { writer = self.old.title.writer; value = [] }; gain = self.old.gain; mute = self.old.mute; presence = self.old.presence }) }
+        ensures cells { OnOk result (self.new ≡ record { place = self.old.place; title = record
+            { writer = self.old.title.writer; value = [] }; gain = self.old.gain; mute = self.old.mute; presence = self.old.presence }) }
         ensures kept { OnErr result (self.new ≡ self.old) }
     {
         let Ok(empty) = Title::new(alloc.clone()?, "") else {
@@ -87,7 +89,8 @@ fn remove_tags<A: Allocator + Clone>(
     tags: &[Stamp],
 ) -> Result<(), AllocError>
     ensures tags { OnOk result (presence.new.tags ≡ presence.old.tags) }
-    ensures removed { OnOk result ((t : Stamp) → set.contains presence.new.removed t ≡ (is_listed tags.now t || set.contains presence.old.removed t)) }
+    ensures removed { OnOk result ((t : Stamp) → set.contains presence.new.removed t
+        ≡ (is_listed tags.now t || set.contains presence.old.removed t)) }
 {
     for tag in tags {
         presence.remove_tag(alloc, *tag)?;

@@ -19,7 +19,8 @@ use std::alloc::{AllocError, Allocator};
 
 // The cells of the clip that an operation adds, where it adds one.
 fn added<A: Allocator + Clone>(op: &Op<A>) -> Result<Option<ClipCells<A>>, AllocError>
-    ensures ok { IfOk result (λ cells. MatchOption cells (adds_clip op.now.act ≡ false) (Makes HoldsClip op.now)) }
+    ensures ok { IfOk result (λ cells. MatchOption cells (adds_clip op.now.act ≡ false)
+        (Makes HoldsClip op.now)) }
     ensures adds { IfOk result (λ cells. is_some cells ≡ adds_clip op.now.act) }
 {
     let Body::AddClip {

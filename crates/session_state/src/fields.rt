@@ -1,7 +1,9 @@
 //! What operations write, and the registers that hold it.
 
 ghost use Rattle.std.specs.Prelude.{◌≡◌, ◌≢◌, ◌≤◌, option_map, IfOk, OnOk, IfSome};
-ghost use Rattle.mt_op.specs.Writes.{title_written, gain_written, mute_written, track_place_written, clip_place_written, trim_written, position_written, fades_written, marker_length_written};
+ghost use Rattle.mt_op.specs.Writes.{title_written, gain_written, mute_written};
+ghost use Rattle.mt_op.specs.Writes.{track_place_written, clip_place_written, trim_written};
+ghost use Rattle.mt_op.specs.Writes.{position_written, fades_written, marker_length_written};
 ghost use Rattle.mt_op.specs.Valid.{AreShort};
 ghost use Rattle.session_state.specs.Fields.{rewritten};
 
@@ -16,7 +18,8 @@ pub(crate) fn write<T: Ord + Drop>(
     stamp: Stamp,
     value: Option<T>,
 ) -> Result<(), AllocError>
-    ensures ok { OnOk result (register.old.writer ≢ stamp → register.new ≡ rewritten register.old stamp value) }
+    ensures ok { OnOk result (register.old.writer ≢ stamp → register.new
+        ≡ rewritten register.old stamp value) }
 {
     let Some(value) = value else {
         return Ok(());
@@ -29,7 +32,8 @@ pub(crate) fn write<T: Ord + Drop>(
 pub(crate) fn written_title<A: Allocator + Clone>(
     op: &Op<A>,
 ) -> Result<Option<Title<A>>, AllocError>
-    ensures ok { IfOk result (λ title. title ≡ option_map (λ w. w.value) (title_written op.now.stamp op.now.act)) }
+    ensures ok { IfOk result (λ title. title ≡ option_map (λ w. w.value)
+        (title_written op.now.stamp op.now.act)) }
 {
     match op.body() {
         Body::AddTrack { title, .. }

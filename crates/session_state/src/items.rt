@@ -1,6 +1,7 @@
 //! The state of items.
 
-ghost use Rattle.std.specs.Prelude.{◌≡◌, false, List, [], ◌∷◌, Some, ◌≤◌, IfOk, IfSome, MatchOption, option_map};
+ghost use Rattle.std.specs.Prelude.{◌≡◌, false, List, [], ◌∷◌, Some, ◌≤◌, IfOk, IfSome};
+ghost use Rattle.std.specs.Prelude.{MatchOption, option_map};
 ghost use Rattle.std.specs.Map.{keys_of};
 ghost use Rattle.std.specs.List.{AllByRecursion};
 ghost use Rattle.std.specs.List.Sorted.{IsStrictlySortedBy};
@@ -10,10 +11,14 @@ ghost use Rattle.mt_op.specs.declared.need.Role.TheVariants.{Track, Clip, Marker
 ghost use Rattle.mt_op.specs.OpValue.{Op};
 ghost use Rattle.mt_op.specs.Needs.{need_of};
 ghost use Rattle.mt_op.specs.Presence.{is_present, is_listed, live_tags};
-ghost use Rattle.mt_op.specs.Writes.{title_written, gain_written, mute_written, track_place_written, clip_place_written, trim_written, source_written, position_written, fades_written, marker_length_written, last_write};
+ghost use Rattle.mt_op.specs.Writes.{title_written, gain_written, mute_written};
+ghost use Rattle.mt_op.specs.Writes.{track_place_written, clip_place_written, trim_written};
+ghost use Rattle.mt_op.specs.Writes.{source_written, position_written, fades_written};
+ghost use Rattle.mt_op.specs.Writes.{marker_length_written, last_write};
 ghost use Rattle.mt_op.specs.Valid.{AreShort};
 ghost use Rattle.session_state.specs.Applying.{CanApply, AreApplied, is_need_met};
-ghost use Rattle.session_state.specs.Cells.{HoldsTrack, HoldsClip, HoldsMarker, HoldsTracks, items_of, rising_items};
+ghost use Rattle.session_state.specs.Cells.{HoldsTrack, HoldsClip, HoldsMarker, HoldsTracks};
+ghost use Rattle.session_state.specs.Cells.{items_of, rising_items};
 
 use crate::ahead::NO_HINT;
 use crate::cells::{ClipCells, MarkerCells, TrackCells};
@@ -31,11 +36,13 @@ use mt_stamp::Stamp;
 use std::alloc::{AllocError, Allocator, Global};
 use std::marker::Model;
 
-/// What noted operations leave of tracks, clips and markers: the last write of each field, and the tags of each item.
-/// It is seen as the list of the operations noted, the last one first. Each was noted after those that it needs.
+/// What noted operations leave of tracks, clips and markers: the last write of each field, and the
+/// tags of each item. It is seen as the list of the operations noted, the last one first. Each was
+/// noted after those that it needs.
 ///
-/// A write that comes late does not win over one of a greater stamp, and a removal takes away the tags that it names
-/// and no others, so each answer depends on which operations were noted, and not on their order (`laws::any_order`).
+/// A write that comes late does not win over one of a greater stamp, and a removal takes away the
+/// tags that it names and no others, so each answer depends on which operations were noted, and not
+/// on their order (`laws::any_order`).
 #[derive(Drop)]
 pub struct ItemStates<A: Allocator = Global> {
     alloc: A,
@@ -88,8 +95,9 @@ impl<A: Allocator> ItemStates<A> {
         ItemStates::with_room(alloc, Capacity::NONE)
     }
 
-    /// Nothing noted, with memory for the items that these operations add: while they are noted, no item moves. That is memory for one item,
-    /// or a place, for each of them that adds one, and what is not used of it is not touched. Refused only as `AllocError`, where an allocation
+    /// Nothing noted, with memory for the items that these operations add: while they are noted, no
+    /// item moves. That is memory for one item, or a place, for each of them that adds one, and
+    /// what is not used of it is not touched. Refused only as `AllocError`, where an allocation
     /// failed.
     pub fn with_capacity_for(alloc: A, ops: &[&Op<A>]) -> Result<Self, AllocError>
     where
@@ -99,10 +107,11 @@ impl<A: Allocator> ItemStates<A> {
         ItemStates::with_room(alloc, capacity_for(ops))
     }
 
-    /// Notes an operation of a new stamp whose needs are met by noted ones. `are_needs_met` tells the latter;
-    /// `laws::new_stamps` says of which facts that a caller has a stamp is known to be new. In whatever order
-    /// operations are noted, each takes at worst the logarithm of the number of items. Refused only as `AllocError`, where a
-    /// growth was refused; what was noted is then dropped.
+    /// Notes an operation of a new stamp whose needs are met by noted ones. `are_needs_met` tells
+    /// the latter; `laws::new_stamps` says of which facts that a caller has a stamp is known to be
+    /// new. In whatever order operations are noted, each takes at worst the logarithm of the number
+    /// of items. Refused only as `AllocError`, where a growth was refused; what was noted is then
+    /// dropped.
     pub fn apply(self, op: &Op<A>) -> Result<Self, AllocError>
     where
         A: Clone,
@@ -112,7 +121,8 @@ impl<A: Allocator> ItemStates<A> {
         self.apply_near(NO_HINT, op)
     }
 
-    /// Notes an operation as `note` does, and looks for the cells of its item at an index first, as `prefetch` told it.
+    /// Notes an operation as `note` does, and looks for the cells of its item at an index first, as
+    /// `prefetch` told it.
     pub fn apply_near(self, near: usize, op: &Op<A>) -> Result<Self, AllocError>
     where
         A: Clone,
@@ -151,13 +161,15 @@ impl<A: Allocator> ItemStates<A> {
         }
     }
 
-    /// The live tags of an item, each once, from the least stamp to the greatest: what a Remove of it lists. What is
-    /// no item has none. Refused only as `AllocError`, where an allocation failed.
+    /// The live tags of an item, each once, from the least stamp to the greatest: what a Remove of
+    /// it lists. What is no item has none. Refused only as `AllocError`, where an allocation
+    /// failed.
     pub fn live_tags(&self, item: Stamp) -> Result<Vec<Stamp, A>, AllocError>
     where
         A: Clone,
         ensures rising { IfOk result (λ tags. IsStrictlySortedBy stamp_cmp tags.items) }
-        ensures live { IfOk result (λ tags. (tag : Stamp) → is_listed tags.items tag ≡ is_listed (live_tags item self.now) tag) }
+        ensures live { IfOk result (λ tags. (tag : Stamp) → is_listed tags.items tag
+            ≡ is_listed (live_tags item self.now) tag) }
         ensures applied { AreApplied self.now }
     {
         // for the proof: that the cells are those of the operations noted
@@ -207,8 +219,8 @@ impl<A: Allocator> ItemStates<A> {
         }
     }
 
-    /// The last write of a track's place: its stamp is the track's current place, and its value the place that this
-    /// one was put after, none for the head. `None` where the stamp names no track.
+    /// The last write of a track's place: its stamp is the track's current place, and its value the
+    /// place that this one was put after, none for the head. `None` where the stamp names no track.
     pub fn track_place(&self, track: Stamp) -> Option<&Register<Option<Stamp>>>
         ensures { option_map (λ r. r.now) result ≡ last_write track_place_written track self.now }
     {
@@ -218,10 +230,11 @@ impl<A: Allocator> ItemStates<A> {
         }
     }
 
-    /// The current place of a track: the stamp of the last AddTrack or MoveTrack that put it anywhere. `None` where
-    /// the stamp names no track.
+    /// The current place of a track: the stamp of the last AddTrack or MoveTrack that put it
+    /// anywhere. `None` where the stamp names no track.
     pub fn current_place(&self, track: Stamp) -> Option<Stamp>
-        ensures { result ≡ option_map (λ (w : Written _). w.writer) (last_write track_place_written track self.now) }
+        ensures { result ≡ option_map (λ (w : Written _). w.writer)
+            (last_write track_place_written track self.now) }
     {
         match self.track_place(track) {
             Some(place) => Some(place.stamp()),
@@ -229,8 +242,8 @@ impl<A: Allocator> ItemStates<A> {
         }
     }
 
-    /// The last write of a clip's place: its track, and the frame of the session at which it begins. `None` where the
-    /// stamp names no clip.
+    /// The last write of a clip's place: its track, and the frame of the session at which it
+    /// begins. `None` where the stamp names no clip.
     pub fn clip_place(&self, clip: Stamp) -> Option<&Register<Placement>>
         ensures { option_map (λ r. r.now) result ≡ last_write clip_place_written clip self.now }
     {
@@ -240,8 +253,8 @@ impl<A: Allocator> ItemStates<A> {
         }
     }
 
-    /// The last write of a clip's trim: the first frame of its recording that it plays, and how many frames,
-    /// at least 1. `None` where the stamp names no clip.
+    /// The last write of a clip's trim: the first frame of its recording that it plays, and how
+    /// many frames, at least 1. `None` where the stamp names no clip.
     pub fn trim(&self, clip: Stamp) -> Option<&Register<TrimRange>>
         ensures write { option_map (λ r. r.now) result ≡ last_write trim_written clip self.now }
         ensures positive { IfSome result (λ r. 1 ≤ r.now.value.len) }
@@ -252,7 +265,8 @@ impl<A: Allocator> ItemStates<A> {
         }
     }
 
-    /// The last write of a clip's fades, none longer than 1,048,576 frames. `None` where the stamp names no clip.
+    /// The last write of a clip's fades, none longer than 1,048,576 frames. `None` where the stamp
+    /// names no clip.
     pub fn fades(&self, clip: Stamp) -> Option<&Register<FadeLengths>>
         ensures write { option_map (λ r. r.now) result ≡ last_write fades_written clip self.now }
         ensures short { IfSome result (λ r. AreShort r.now.value) }
@@ -263,9 +277,11 @@ impl<A: Allocator> ItemStates<A> {
         }
     }
 
-    /// The recording that a clip plays, which its own AddClip alone writes. `None` where the stamp names no clip.
+    /// The recording that a clip plays, which its own AddClip alone writes. `None` where the stamp
+    /// names no clip.
     pub fn source(&self, clip: Stamp) -> Option<Digest>
-        ensures { option_map (λ source. record { writer = clip; value = source }) result ≡ last_write source_written clip self.now }
+        ensures { option_map (λ source. record { writer = clip; value = source }) result
+            ≡ last_write source_written clip self.now }
     {
         match self.clips.get(clip) {
             Some(cells) => Some(cells.source),
@@ -273,7 +289,8 @@ impl<A: Allocator> ItemStates<A> {
         }
     }
 
-    /// The last write of a marker's position, in frames of the session. `None` where the stamp names no marker.
+    /// The last write of a marker's position, in frames of the session. `None` where the stamp
+    /// names no marker.
     pub fn position(&self, marker: Stamp) -> Option<&Register<u32>>
         ensures { option_map (λ r. r.now) result ≡ last_write position_written marker self.now }
     {
@@ -285,7 +302,8 @@ impl<A: Allocator> ItemStates<A> {
 
     /// The last write of a marker's length, in frames. `None` where the stamp names no marker.
     pub fn marker_length(&self, marker: Stamp) -> Option<&Register<u32>>
-        ensures { option_map (λ r. r.now) result ≡ last_write marker_length_written marker self.now }
+        ensures { option_map (λ r. r.now) result ≡ last_write marker_length_written marker self.now
+            }
     {
         match self.markers.get(marker) {
             Some(cells) => Some(&cells.len),
@@ -293,9 +311,11 @@ impl<A: Allocator> ItemStates<A> {
         }
     }
 
-    /// The cells of a track, present or not: all its fields by one search. `None` where the stamp names no track.
+    /// The cells of a track, present or not: all its fields by one search. `None` where the stamp
+    /// names no track.
     pub fn track_cells(&self, track: Stamp) -> Option<&TrackCells<A>>
-        ensures { MatchOption result (is_need_met self.now (need_of Track track) ≡ false) (λ cells. HoldsTrack track self.now cells.now) }
+        ensures { MatchOption result (is_need_met self.now (need_of Track track) ≡ false)
+            (λ cells. HoldsTrack track self.now cells.now) }
     {
         // for the proof: that the cells are those of the operations noted
         let _ = &self.applied;
@@ -322,7 +342,8 @@ impl<A: Allocator> ItemStates<A> {
         self.markers.entries()
     }
 
-    /// The tracks by their stamps, and the markers in the order in which they were noted, present or not, with their cells by value. All else is let go.
+    /// The tracks by their stamps, and the markers in the order in which they were noted, present
+    /// or not, with their cells by value. All else is let go.
     pub fn into_tracks_and_markers(
         self,
     ) -> (StampMap<TrackCells<A>, A>, Vec<(Stamp, MarkerCells<A>), A>)
@@ -338,8 +359,8 @@ impl<A: Allocator> ItemStates<A> {
         (tracks, markers.into_entries())
     }
 
-    /// The stamps of the tracks, present or not, from the least to the greatest. Refused only as `AllocError`, where
-    /// an allocation failed.
+    /// The stamps of the tracks, present or not, from the least to the greatest. Refused only as
+    /// `AllocError`, where an allocation failed.
     pub fn tracks(&self) -> Result<Vec<Stamp, A>, AllocError>
     where
         A: Clone,
@@ -348,8 +369,8 @@ impl<A: Allocator> ItemStates<A> {
         stamps_of(self.alloc.clone()?, self.tracks.entries())
     }
 
-    /// The stamps of the clips, present or not, from the least to the greatest. Refused only as `AllocError`, where a
-    /// growth was refused.
+    /// The stamps of the clips, present or not, from the least to the greatest. Refused only as
+    /// `AllocError`, where a growth was refused.
     pub fn clips(&self) -> Result<Vec<Stamp, A>, AllocError>
     where
         A: Clone,
@@ -358,8 +379,8 @@ impl<A: Allocator> ItemStates<A> {
         stamps_of(self.alloc.clone()?, self.clips.entries())
     }
 
-    /// The stamps of the markers, present or not, from the least to the greatest. Refused only as `AllocError`, where
-    /// an allocation failed.
+    /// The stamps of the markers, present or not, from the least to the greatest. Refused only as
+    /// `AllocError`, where an allocation failed.
     pub fn markers(&self) -> Result<Vec<Stamp, A>, AllocError>
     where
         A: Clone,

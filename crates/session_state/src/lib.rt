@@ -1,8 +1,10 @@
-//! The state of items: of the operations noted so far, what each field of each item holds, and which items are there.
+//! The state of items: of the operations noted so far, what each field of each item holds, and
+//! which items are there.
 //!
-//! An editor takes operations one by one, from several replicas and in any order in which each stands after those that it
-//! needs. `Items` notes each, and answers at any time what a session is made of: the last write of each field with the
-//! stamp of its writer, the live tags of each item, and the tracks, clips and markers by their stamps.
+//! An editor takes operations one by one, from several replicas and in any order in which each
+//! stands after those that it needs. `Items` notes each, and answers at any time what a session is
+//! made of: the last write of each field with the stamp of its writer, the live tags of each item,
+//! and the tracks, clips and markers by their stamps.
 //!
 //! ```rust
 //! use session_state::ItemStates;
@@ -28,15 +30,19 @@
 //! }
 //! ```
 //!
-//! Whether an operation may be noted next is a condition that the caller shows: its stamp is new (`laws::new_stamps`), and
-//! `are_needs_met` says true. `items_of_ready` does so for a whole set that stands by rising stamp, in one pass.
+//! Whether an operation may be noted next is a condition that the caller shows: its stamp is new
+//! (`laws::new_stamps`), and `are_needs_met` says true. `items_of_ready` does so for a whole set
+//! that stands by rising stamp, in one pass.
 //!
-//! A clip's place and a marker's position are frames of the session, and a trim is frames of a recording, its length at least 1. The one refusal
-//! is `AllocError`, where an allocation failed: of `note`, which then drops all that was noted, and of what hands out a list.
+//! A clip's place and a marker's position are frames of the session, and a trim is frames of a
+//! recording, its length at least 1. The one refusal is `AllocError`, where an allocation failed:
+//! of `note`, which then drops all that was noted, and of what hands out a list.
 //!
-//! An item is found by its replica and number (base_stampmap): an operation costs a few looks at its item, and at worst the logarithm of the number of
-//! items, whatever came before it. Contracts see an `Items` as the list of the operations noted, and each answer is a definition
-//! of mt_op over that list; on which operations these are it depends, and on nothing else (`laws::any_order`).
+//! An item is found by its replica and number (base_stampmap): an operation costs a few looks at
+//! its item, and at worst the logarithm of the number of items, whatever came before it. Contracts
+//! see an `Items` as the list of the operations noted, and each answer is a definition of mt_op
+//! over that list; on which operations these are it depends, and on nothing else
+//! (`laws::any_order`).
 #![tactic(auto)]
 
 mod ahead;

@@ -17,7 +17,8 @@ use std::alloc::{AllocError, Allocator};
 
 // The cells of the marker that an operation adds, where it adds one.
 fn added<A: Allocator + Clone>(op: &Op<A>) -> Result<Option<MarkerCells<A>>, AllocError>
-    ensures ok { IfOk result (λ cells. MatchOption cells (adds_marker op.now.act ≡ false) (Makes HoldsMarker op.now)) }
+    ensures ok { IfOk result (λ cells. MatchOption cells (adds_marker op.now.act ≡ false)
+        (Makes HoldsMarker op.now)) }
     ensures adds { IfOk result (λ cells. is_some cells ≡ adds_marker op.now.act) }
 {
     let Body::AddMarker { at, title } = op.body() else {

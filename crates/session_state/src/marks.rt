@@ -14,8 +14,9 @@ use mt_stamp::Stamp;
 use std::alloc::{AllocError, Allocator};
 use std::marker::Model;
 
-/// The tags of an item that was added, and those that were removed. Its own stamp is its first tag; it takes memory from the
-/// first other tag or removal on: a block for the marks, and what they hold.
+/// The tags of an item that was added, and those that were removed. Its own stamp is its first tag;
+/// it takes memory from the first other tag or removal on: a block for the marks, and what they
+/// hold.
 #[derive(Drop)]
 pub struct ItemPresence<A: Allocator> {
     own: Stamp,
@@ -67,7 +68,8 @@ impl<A: Allocator> ItemPresence<A> {
     where
         A: Clone,
         ensures rising { IfOk result (λ tags. IsStrictlySortedBy stamp_cmp tags.items) }
-        ensures live { IfOk result (λ tags. (stamp : Stamp) → is_in (eq_by_cmp stamp_cmp) tags.items stamp ≡ is_live self.now stamp) }
+        ensures live { IfOk result (λ tags. (stamp : Stamp)
+            → is_in (eq_by_cmp stamp_cmp) tags.items stamp ≡ is_live self.now stamp) }
     {
         let Some(presence) = &self.applied else {
             let mut tags = Vec::new(alloc.clone()?);
@@ -81,7 +83,8 @@ impl<A: Allocator> ItemPresence<A> {
     pub(crate) fn add_tag(&mut self, alloc: &A, stamp: Stamp) -> Result<(), AllocError>
     where
         A: Clone,
-        ensures tagged { OnOk result (self.new ≡ record { tags = set.insert self.old.tags stamp; removed = self.old.removed }) }
+        ensures tagged { OnOk result (self.new ≡ record { tags = set.insert self.old.tags stamp;
+            removed = self.old.removed }) }
     {
         let mut marks = marks_of(alloc, self.own, self.applied.take())?;
         marks.add_tag(stamp)?;
@@ -93,7 +96,8 @@ impl<A: Allocator> ItemPresence<A> {
     pub(crate) fn remove_tag(&mut self, alloc: &A, stamp: Stamp) -> Result<(), AllocError>
     where
         A: Clone,
-        ensures removed { OnOk result (self.new ≡ record { tags = self.old.tags; removed = set.insert self.old.removed stamp }) }
+        ensures removed { OnOk result (self.new ≡ record { tags = self.old.tags; removed =
+            set.insert self.old.removed stamp }) }
     {
         let mut marks = marks_of(alloc, self.own, self.applied.take())?;
         marks.remove_tag(stamp)?;
@@ -108,7 +112,8 @@ fn marks_of<A: Allocator + Clone>(
     own: Stamp,
     applied: Option<Box<Presence<A>, A>>,
 ) -> Result<Box<Presence<A>, A>, AllocError>
-    ensures ok { IfOk result (λ marks. marks.value ≡ marks_from own (option_map box_value applied)) }
+    ensures ok { IfOk result (λ marks. marks.value ≡ marks_from own (option_map box_value applied))
+        }
 {
     if let Some(marks) = applied {
         return Ok(marks);

@@ -1,7 +1,9 @@
-//! Which needs noted operations meet. What looks near an index looks there first, and then wherever the item may stand.
+//! Which needs noted operations meet. What looks near an index looks there first, and then wherever
+//! the item may stand.
 
 ghost use Rattle.std.specs.Prelude.{◌≡◌, MatchOption, Some, slice_get};
-ghost use Rattle.mt_op.specs.declared.need.Role.TheVariants.{Track, Place, Clip, Marker, Mixable, Titled, Item, TagOf};
+ghost use Rattle.mt_op.specs.declared.need.Role.TheVariants.{Track, Place, Clip, Marker, Mixable};
+ghost use Rattle.mt_op.specs.declared.need.Role.TheVariants.{Titled, Item, TagOf};
 ghost use Rattle.mt_op.specs.Needs.{need_of, needs};
 ghost use Rattle.mt_op.specs.declared.need.Need.{Need as NeedOf};
 ghost use Rattle.mt_cells.specs.PresenceValue.{unmarked};
@@ -18,7 +20,8 @@ use std::alloc::Allocator;
 impl<A: Allocator> ItemStates<A> {
     // The presence of an item.
     pub(crate) fn presence_near(&self, near: usize, item: Stamp) -> Option<&ItemPresence<A>>
-        ensures { MatchOption result (HoldsTags item self.now unmarked) (λ p. HoldsTags item self.now p.now) }
+        ensures { MatchOption result (HoldsTags item self.now unmarked)
+            (λ p. HoldsTags item self.now p.now) }
     {
         match self.tracks.get_near(near, item) {
             Some(cells) => Some(&cells.presence),
@@ -117,7 +120,8 @@ impl<A: Allocator> ItemStates<A> {
 
     // Whether the need of an operation at place `i` is met.
     fn is_met_at(&self, near: usize, op: &Op<A>, i: usize) -> bool
-        ensures { (need : NeedOf) → slice_get (needs op.now) i ≡ Some need → result ≡ is_need_met self.now need }
+        ensures { (need : NeedOf) → slice_get (needs op.now) i ≡ Some need → result
+            ≡ is_need_met self.now need }
     {
         match op.need(i) {
             Some(need) => self.meets_near(near, &need),
@@ -133,7 +137,8 @@ impl<A: Allocator> ItemStates<A> {
         self.are_needs_met_near(NO_HINT, op)
     }
 
-    /// The same, where the cells of the operation's item are looked for at an index first, as `prefetch` told it.
+    /// The same, where the cells of the operation's item are looked for at an index first, as
+    /// `prefetch` told it.
     pub fn are_needs_met_near(&self, near: usize, op: &Op<A>) -> bool
         ensures met { result ≡ are_needs_met self.now op.now }
         ensures applied { AreApplied self.now }

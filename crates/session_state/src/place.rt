@@ -16,7 +16,8 @@ pub(crate) fn apply<A: Allocator + Clone>(
     op: &Op<A>,
 ) -> Result<(), AllocError>
     requires new { lookup (stamp_eq op.now.stamp) places.old ≡ None }
-    ensures ok { OnOk result ((ops : List Op) → HoldsPlaces ops places.old → HoldsPlaces (op.now ∷ ops) places.new) }
+    ensures ok { OnOk result ((ops : List Op) → HoldsPlaces ops places.old
+        → HoldsPlaces (op.now ∷ ops) places.new) }
 {
     if op.fits(&Role::Place) {
         places.insert(op.stamp(), ())?;

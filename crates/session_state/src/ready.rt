@@ -17,7 +17,8 @@ use std::alloc::{AllocError, Allocator};
 fn pass<A: Allocator + Clone>(alloc: A, ops: &[&Op<A>]) -> Result<ItemStates<A>, AllocError>
     requires rising { RisesStrictly op_cmp (map (λ o. o.now) ops.now) }
     ensures ok { IfOk result (λ items. items ≡ one_pass [] (map (λ o. o.now) ops.now)) }
-    ensures older { IfOk result (λ items. AllByRecursion (λ o. IsTrue (names_are_older o)) (map (λ o. o.now) ops.now)) }
+    ensures older { IfOk result (λ items. AllByRecursion (λ o. IsTrue (names_are_older o))
+        (map (λ o. o.now) ops.now)) }
 {
     let mut items = ItemStates::with_capacity_for(alloc, ops)?;
     let mut near = [0; PREFETCH_DISTANCE];
@@ -35,15 +36,16 @@ fn pass<A: Allocator + Clone>(alloc: A, ops: &[&Op<A>]) -> Result<ItemStates<A>,
     Ok(items)
 }
 
-/// The items that the ready ones of these operations leave, which rise by stamp, each stamp once. The ready ones are
-/// noted, from the least stamp to the greatest; those that are held change nothing. n operations cost n log n.
-/// Refused only as `AllocError`, where an allocation failed.
+/// The items that the ready ones of these operations leave, which rise by stamp, each stamp once.
+/// The ready ones are noted, from the least stamp to the greatest; those that are held change
+/// nothing. n operations cost n log n. Refused only as `AllocError`, where an allocation failed.
 pub fn items_of_ready<A: Allocator + Clone>(
     alloc: A,
     ops: &[&Op<A>],
 ) -> Result<ItemStates<A>, AllocError>
     requires rising { RisesStrictly op_cmp (map (λ o. o.now) ops.now) }
-    ensures ok { IfOk result (λ items. items ≡ reverse (ready clock_of needs meets (map (λ o. o.now) ops.now))) }
+    ensures ok { IfOk result (λ items. items ≡ reverse
+        (ready clock_of needs meets (map (λ o. o.now) ops.now))) }
 {
     pass(alloc, ops)
 }

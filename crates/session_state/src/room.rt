@@ -22,7 +22,8 @@ impl Capacity {
     };
 }
 
-/// For what these operations add, were all of them noted. It says how much memory is taken at first, and no more.
+/// For what these operations add, were all of them noted. It says how much memory is taken at
+/// first, and no more.
 pub(crate) fn capacity_for<A: Allocator>(ops: &[&Op<A>]) -> Capacity {
     let mut room = Capacity::NONE;
     for op in ops {

@@ -17,7 +17,8 @@ use std::alloc::{AllocError, Allocator};
 
 // The cells of the track that an operation adds, where it adds one.
 fn added<A: Allocator + Clone>(op: &Op<A>) -> Result<Option<TrackCells<A>>, AllocError>
-    ensures ok { IfOk result (λ cells. MatchOption cells (adds_track op.now.act ≡ false) (Makes HoldsTrack op.now)) }
+    ensures ok { IfOk result (λ cells. MatchOption cells (adds_track op.now.act ≡ false)
+        (Makes HoldsTrack op.now)) }
     ensures adds { IfOk result (λ cells. is_some cells ≡ adds_track op.now.act) }
 {
     let Body::AddTrack { after, title } = op.body() else {

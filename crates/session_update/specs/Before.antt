@@ -1,5 +1,7 @@
--- A session before the last of the noted operations, and where the item of this operation stood in it.
-use Rattle.std.specs.Prelude.{◌≡◌, ℕ, Bool, true, false, ◌&&◌, ◌==◌, List, ◌∷◌, map, filter, not, slice_get, Option, option_map, Some, None, if◌then◌else◌, ◌⊎◌}
+-- A session before the last of the noted operations, and where the item of this operation stood in
+-- it.
+use Rattle.std.specs.Prelude.{◌≡◌, ℕ, Bool, true, false, ◌&&◌, ◌==◌, List, ◌∷◌, map, filter, not}
+use Rattle.std.specs.Prelude.{slice_get, Option, option_map, Some, None, if◌then◌else◌, ◌⊎◌}
 use Rattle.std.specs.List.{sum_by, list_any}
 use Rattle.std.specs.Ordering.{nat_cmp}
 use Rattle.std.specs.declared.cmp.Ordering.{Ordering}
@@ -15,7 +17,8 @@ use Rattle.session_state.specs.Applying.{AreApplied, is_need_met}
 use Rattle.mt_sessionview.specs.SessionValue.{Clip, Track, Marker, Session}
 use Rattle.mt_sessionview.specs.AppliedOps.{markers_in, tracks_in, places_in, track_place_in}
 use Rattle.mt_sessionview.specs.Read.{clip_read}
-use Rattle.mt_sessionview.specs.Changing.{is_marker_at, is_clip_at, is_placed_by, with_clip, without_clip, without}
+use Rattle.mt_sessionview.specs.Changing.{is_marker_at, is_clip_at, is_placed_by, with_clip}
+use Rattle.mt_sessionview.specs.Changing.{without_clip, without}
 use Rattle.session_update.specs.declared.before.Located.{Located}
 use Rattle.session_update.specs.declared.clip.PlacedClip.{PlacedClip}
 use Rattle.session_update.specs.Updating.{item_of_op, marker_entry}
@@ -31,8 +34,10 @@ pub record IsOneMore (ops before : List Op) (item : Stamp) : Type 0 where
 abbrev pub marker_position : List Op → Stamp → Option ℕ
 marker_position ops item = option_map (λ (m : Marker). m.at) (marker_entry ops item)
 
--- The markers are those before the last of these operations, and that of its item stood at this position.
-pub record MarkersLocated (ops : List Op) (item : Stamp) (located : Option ℕ) (markers : List Marker) : Type 0 where
+-- The markers are those before the last of these operations, and that of its item stood at this
+-- position.
+pub record MarkersLocated (ops : List Op) (item : Stamp) (located : Option ℕ)
+    (markers : List Marker) : Type 0 where
   pub before : List Op
   pub one_more : IsOneMore ops before item
   pub are : markers ≡ markers_in before
@@ -40,10 +45,13 @@ pub record MarkersLocated (ops : List Op) (item : Stamp) (located : Option ℕ) 
 
 -- the clip of a stamp with its track, which may be absent
 abbrev pub placed_clip : List Op → Stamp → Option PlacedClip
-placed_clip ops item = option_map (λ f. record { track = f.track; clip = f.clip }) (clip_read ops item)
+placed_clip ops item = option_map (λ f. record { track = f.track; clip = f.clip })
+    (clip_read ops item)
 
--- The tracks are those before the last of these operations, and the clip that is its item stood there.
-pub record ClipsLocated (ops : List Op) (item : Stamp) (located : Option PlacedClip) (tracks : List Track) : Type 0 where
+-- The tracks are those before the last of these operations, and the clip that is its item stood
+-- there.
+pub record ClipsLocated (ops : List Op) (item : Stamp) (located : Option PlacedClip)
+    (tracks : List Track) : Type 0 where
   pub before : List Op
   pub one_more : IsOneMore ops before item
   pub are : tracks ≡ tracks_in before
@@ -53,8 +61,10 @@ pub record ClipsLocated (ops : List Op) (item : Stamp) (located : Option PlacedC
 abbrev pub is_known : List Op → Stamp → Bool
 is_known ops item = is_need_met ops (need_of ItemRole item)
 
--- The tracks are those before the last of these operations, and it is known whether its item was added before it.
-pub record TracksLocated (ops : List Op) (item : Stamp) (known : Bool) (tracks : List Track) : Type 0 where
+-- The tracks are those before the last of these operations, and it is known whether its item was
+-- added before it.
+pub record TracksLocated (ops : List Op) (item : Stamp) (known : Bool) (tracks : List Track) : Type
+    0 where
   pub before : List Op
   pub one_more : IsOneMore ops before item
   pub are : tracks ≡ tracks_in before
@@ -62,14 +72,18 @@ pub record TracksLocated (ops : List Op) (item : Stamp) (known : Bool) (tracks :
 
 -- ---- all that an operation changes
 
--- The list has the places that these operations gave: whatever is counted of each place adds up to the same.
+-- The list has the places that these operations gave: whatever is counted of each place adds up to
+-- the same.
 abbrev pub ArePlacesOf : List Placed → List Op → Type 0
 ArePlacesOf list ops = (f : TreePlace → ℕ) → sum_by f (tree_of list) ≡ sum_by f (places_in ops)
 
--- the place that an act under a stamp gives a track, if it gives one, with what it is put after and the track
+-- the place that an act under a stamp gives a track, if it gives one, with what it is put after and
+-- the track
 abbrev pub placed_of : Stamp → Body → Option Placed
-placed_of stamp (AddTrack after title) = Some (record { place = stamp; after = after; track = stamp })
-placed_of stamp (MoveTrack track after) = Some (record { place = stamp; after = after; track = track })
+placed_of stamp (AddTrack after title) = Some (record
+    { place = stamp; after = after; track = stamp })
+placed_of stamp (MoveTrack track after) = Some (record
+    { place = stamp; after = after; track = track })
 placed_of stamp act = None
 
 -- a list of places with one more put in, if there is one
@@ -77,12 +91,15 @@ abbrev pub with_placed : Option Placed → List Placed → List Placed
 with_placed None list = list
 with_placed (Some placed) list = inserted list placed
 
--- where an item stands in a session: the position of a marker, a clip with its track, and whether it was added at all
+-- where an item stands in a session: the position of a marker, a clip with its track, and whether
+-- it was added at all
 abbrev pub located_in : List Op → Stamp → Located
-located_in ops item = record { marker = marker_position ops item; clip = placed_clip ops item; known = is_known ops item }
+located_in ops item = record { marker = marker_position ops item; clip = placed_clip ops item; known
+    = is_known ops item }
 
 -- The session is that before the last of these operations, and its item stood there.
-pub record SessionLocated (ops : List Op) (item : Stamp) (located : Located) (content : Session) : Type 0 where
+pub record SessionLocated (ops : List Op) (item : Stamp) (located : Located) (content : Session) :
+    Type 0 where
   pub before : List Op
   pub one_more : IsOneMore ops before item
   pub tracks_are : content.tracks ≡ tracks_in before
@@ -98,14 +115,16 @@ without_located (Some at) item markers = filter (λ m. not (is_marker_at at item
 
 -- a track without a clip that stood on it
 abbrev pub clip_off : PlacedClip → Track → Track
-clip_off found t = if stamp_eq found.track t.track then without_clip found.clip.at found.clip.place t else t
+clip_off found t = if stamp_eq found.track t.track then without_clip found.clip.at found.clip.place
+    t else t
 
 -- the tracks with a clip taken off where it stood
 abbrev pub tracks_without : Option PlacedClip → List Track → List Track
 tracks_without None tracks = tracks
 tracks_without (Some found) tracks = map (clip_off found) tracks
 
--- A session is as it was, or lacks what stood of an item: the marker, the clip, or the track. All else stays.
+-- A session is as it was, or lacks what stood of an item: the marker, the clip, or the track. All
+-- else stays.
 abbrev pub LacksAtMost : Stamp → Located → Session → Session → Type 0
 LacksAtMost item located old new =
     (new ≡ old)
@@ -124,25 +143,31 @@ if_there track (Some found) = if stamp_eq found.track track then Some found.clip
 abbrev pub clip_to : PlacedClip → Track → Track
 clip_to found t = if stamp_eq found.track t.track then with_clip found.clip t else t
 
--- whether a clip is where one stood: on the same track, at the same position, where the same operation put it
+-- whether a clip is where one stood: on the same track, at the same position, where the same
+-- operation put it
 abbrev pub is_where : Option PlacedClip → PlacedClip → Bool
 is_where None found = false
-is_where (Some was) found = stamp_eq was.track found.track && (was.clip.at == found.clip.at) && stamp_eq was.clip.place found.clip.place
+is_where (Some was) found = stamp_eq was.track found.track && (was.clip.at == found.clip.at)
+    && stamp_eq was.clip.place found.clip.place
 
 -- Its track, where it is one of these, has a clip where it is.
 abbrev pub IsThere : PlacedClip → List Track → Type 0
-IsThere found tracks = (k : ℕ) (t : Track) → slice_get tracks k ≡ Some t → stamp_eq found.track t.track ≡ true → list_any (is_clip_at found.clip.at found.clip.place) t.clips ≡ true
+IsThere found tracks = (k : ℕ) (t : Track) → slice_get tracks k ≡ Some t
+    → stamp_eq found.track t.track ≡ true → list_any (is_clip_at found.clip.at found.clip.place)
+    t.clips ≡ true
 
 -- Its track, where it is one of these, has no clip that the same operation put where it is.
 abbrev pub IsNew : PlacedClip → List Track → Type 0
-IsNew found tracks = (k : ℕ) (t : Track) → slice_get tracks k ≡ Some t → stamp_eq found.track t.track ≡ true → list_any (is_placed_by found.clip.place) t.clips ≡ false
+IsNew found tracks = (k : ℕ) (t : Track) → slice_get tracks k ≡ Some t
+    → stamp_eq found.track t.track ≡ true → list_any (is_placed_by found.clip.place) t.clips ≡ false
 
 -- the tracks with a clip put where it is
 abbrev pub tracks_with : Option PlacedClip → List Track → List Track
 tracks_with None tracks = tracks
 tracks_with (Some found) tracks = map (clip_to found) tracks
 
--- where the place of a track stands among the places of a list; the list's length where it is not there
+-- where the place of a track stands among the places of a list; the list's length where it is not
+-- there
 abbrev pub place_index : List Placed → List Op → Stamp → ℕ
 place_index list ops track = index_in list (track_place_in ops track)
 

@@ -4,7 +4,8 @@ use Rattle.mt_op.specs.OpValue.{MoveClip, AddMarker, MoveMarker, Op}
 use Rattle.mt_sessionview.specs.SessionValue.{Clip, Track, Marker}
 use Rattle.mt_sessionview.specs.Examples.{by, news, remove_by, track, moves, clip_on, seen}
 use Rattle.mt_sessionview.specs.AppliedOps.{markers_in, tracks_in}
-use Rattle.session_update.specs.Updating.{item_of_op, marker_entry, markers_updated, tracks_updated, places_in_order}
+use Rattle.session_update.specs.Updating.{item_of_op, marker_entry, markers_updated, tracks_updated}
+use Rattle.session_update.specs.Updating.{places_in_order}
 
 -- a marker at 480 and one at 960
 abbrev weather : Op
@@ -32,7 +33,8 @@ pub moved_behind : updated_by (moved_to 5 11 2 1200) two ≡ weather_at 960 ∷ 
 moved_behind = refl
 
 -- the greater stamp has written last, though it was noted first
-pub moved_before : updated_by (moved_to 4 10 2 70) (moved_to 5 11 2 1200 ∷ two) ≡ weather_at 960 ∷ news_at 1200 ∷ []
+pub moved_before : updated_by (moved_to 4 10 2 70) (moved_to 5 11 2 1200 ∷ two) ≡ weather_at 960
+    ∷ news_at 1200 ∷ []
 moved_before = refl
 
 pub removed : marker_entry (remove_by 5 11 2 (by 1 10 1 ∷ []) ∷ two) (by 1 10 1) ≡ None
@@ -45,7 +47,8 @@ taken_out = refl
 
 -- p and q, with a clip on p
 abbrev p_q : List Op
-p_q = clip_on (by 1 10 1) ∷ track 2 10 2 (Some (by 1 10 1)) (codes "q") ∷ track 1 10 1 None (codes "p") ∷ []
+p_q = clip_on (by 1 10 1) ∷ track 2 10 2 (Some (by 1 10 1)) (codes "q")
+    ∷ track 1 10 1 None (codes "p") ∷ []
 
 abbrev all_by : Op → List Op → List Track
 all_by o r = tracks_updated (o ∷ r) (item_of_op o) (tracks_in r)
@@ -63,12 +66,15 @@ to_q = record { stamp = by 5 11 2; act = MoveClip (by 2 11 1) (by 2 10 2) 70 }
 pub moved_clip : clips (all_by to_q p_q) ≡ [] ∷ (seen (by 5 11 2) 70 ∷ []) ∷ []
 moved_clip = refl
 
-pub moved_track : titles (all_by (moves 4 10 4 (by 1 10 1) (Some (by 2 10 2))) p_q) ≡ codes "q" ∷ codes "p" ∷ []
+pub moved_track : titles (all_by (moves 4 10 4 (by 1 10 1) (Some (by 2 10 2))) p_q) ≡ codes "q"
+    ∷ codes "p" ∷ []
 moved_track = refl
 
-pub its_clips : clips (all_by (moves 4 10 4 (by 1 10 1) (Some (by 2 10 2))) p_q) ≡ [] ∷ (seen (by 2 11 1) 5 ∷ []) ∷ []
+pub its_clips : clips (all_by (moves 4 10 4 (by 1 10 1) (Some (by 2 10 2))) p_q) ≡ []
+    ∷ (seen (by 2 11 1) 5 ∷ []) ∷ []
 its_clips = refl
 
 -- the place that the track had before stays among the places
-pub three_places : places_in_order (moves 4 10 4 (by 1 10 1) (Some (by 2 10 2)) ∷ p_q) ≡ by 1 10 1 ∷ by 2 10 2 ∷ by 4 10 4 ∷ []
+pub three_places : places_in_order (moves 4 10 4 (by 1 10 1) (Some (by 2 10 2)) ∷ p_q) ≡ by 1 10 1
+    ∷ by 2 10 2 ∷ by 4 10 4 ∷ []
 three_places = refl

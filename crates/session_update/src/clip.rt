@@ -9,7 +9,8 @@ ghost use Rattle.session_state.specs.Applying.{is_need_met};
 ghost use Rattle.mt_sessionview.specs.SessionValue.{Track};
 ghost use Rattle.mt_sessionview.specs.AppliedOps.{tracks_in};
 ghost use Rattle.mt_sessionview.specs.Read.{fades_of};
-ghost use Rattle.session_update.specs.Before.{ClipsLocated, placed_clip, clip_off, clip_to, tracks_without, is_where, IsThere, IsNew};
+ghost use Rattle.session_update.specs.Before.{ClipsLocated, placed_clip, clip_off, clip_to};
+ghost use Rattle.session_update.specs.Before.{tracks_without, is_where, IsThere, IsNew};
 
 use crate::read::value_or;
 use mt_op::{FadeLengths, Gain};
@@ -41,8 +42,8 @@ fn fades_of<A: Allocator>(items: &ItemStates<A>, item: Stamp) -> FadeLengths
     }
 }
 
-/// The clip of a stamp, where it is present, with its track, which need not be; `None` where no clip of this stamp is. Takes
-/// the logarithm of the number of items, and no memory.
+/// The clip of a stamp, where it is present, with its track, which need not be; `None` where no
+/// clip of this stamp is. Takes the logarithm of the number of items, and no memory.
 pub fn placed_clip<A: Allocator>(items: &ItemStates<A>, item: Stamp) -> Option<PlacedClip>
     ensures { result ≡ placed_clip items.now item }
 {
@@ -81,7 +82,8 @@ pub fn placed_clip<A: Allocator>(items: &ItemStates<A>, item: Stamp) -> Option<P
 // Takes a clip off the track on which it stood, where that is shown.
 fn take_off<A: Allocator>(session: &mut Session<A>, found: PlacedClip)
     requires once { DifferBy (λ (t : Track). t.track) session.old.tracks }
-    ensures { session.new ≡ record session.old { tracks = map (clip_off found) session.old.tracks } }
+    ensures { session.new ≡ record session.old { tracks = map (clip_off found) session.old.tracks }
+        }
 {
     let (at, place) = (found.clip.at, found.clip.place);
     match session.index_of_track(found.track) {
@@ -95,7 +97,8 @@ fn take_off<A: Allocator>(session: &mut Session<A>, found: PlacedClip)
 // The same of what stood, if anything did.
 fn take_located<A: Allocator>(session: &mut Session<A>, located: Option<PlacedClip>)
     requires once { DifferBy (λ (t : Track). t.track) session.old.tracks }
-    ensures { session.new ≡ record session.old { tracks = tracks_without located session.old.tracks } }
+    ensures { session.new ≡ record session.old { tracks = tracks_without located session.old.tracks
+        } }
 {
     if let Some(found) = located {
         take_off(session, found);
@@ -106,7 +109,8 @@ fn take_located<A: Allocator>(session: &mut Session<A>, located: Option<PlacedCl
 fn put_on<A: Allocator>(session: &mut Session<A>, found: PlacedClip) -> Result<(), AllocError>
     requires once { DifferBy (λ (t : Track). t.track) session.old.tracks }
     requires new { IsNew found session.old.tracks }
-    ensures ok { OnOk result (session.new ≡ record session.old { tracks = map (clip_to found) session.old.tracks }) }
+    ensures ok { OnOk result (session.new ≡ record session.old
+        { tracks = map (clip_to found) session.old.tracks }) }
     ensures kept { OnErr result (session.new ≡ session.old) }
 {
     match session.index_of_track(found.track) {
@@ -115,7 +119,8 @@ fn put_on<A: Allocator>(session: &mut Session<A>, found: PlacedClip) -> Result<(
     }
 }
 
-// Whether a clip is shown where it stood: on the same track, at the same position, where the same operation put it.
+// Whether a clip is shown where it stood: on the same track, at the same position, where the same
+// operation put it.
 fn stands_there(located: &Option<PlacedClip>, found: &PlacedClip) -> bool
     ensures { result ≡ is_where located.now found.now }
 {
@@ -142,7 +147,8 @@ fn set_on<A: Allocator>(session: &mut Session<A>, found: PlacedClip)
     }
 }
 
-// Puts a clip in: in the place of the one that stood, where it stays there, and else in its new place, after that one was taken off.
+// Puts a clip in: in the place of the one that stood, where it stays there, and else in its new
+// place, after that one was taken off.
 fn put_in<A: Allocator>(
     session: &mut Session<A>,
     located: Option<PlacedClip>,
@@ -164,12 +170,14 @@ fn put_in<A: Allocator>(
     put_on(session, found)
 }
 
-/// Mends the clips of a session after one operation more was noted, whose item is no track: takes the clip that is its item
-/// off the track on which it stood before (`placed_clip` of the operations before), where that track is shown, and puts it on
-/// the one on which it is now, where this is shown; where it stays at its position on its track, put there by the same
-/// operation, it is rewritten in its place: nothing moves, and no memory is taken. Looks at one track after another, and takes
-/// as many comparisons as the logarithm of the number of clips and items; what follows the clip moves else. Refused only as
-/// `AllocError`, where an allocation failed: the session then lacks the clip, if it stood there, and is else as it was.
+/// Mends the clips of a session after one operation more was noted, whose item is no track: takes
+/// the clip that is its item off the track on which it stood before (`placed_clip` of the
+/// operations before), where that track is shown, and puts it on the one on which it is now, where
+/// this is shown; where it stays at its position on its track, put there by the same operation, it
+/// is rewritten in its place: nothing moves, and no memory is taken. Looks at one track after
+/// another, and takes as many comparisons as the logarithm of the number of clips and items; what
+/// follows the clip moves else. Refused only as `AllocError`, where an allocation failed: the
+/// session then lacks the clip, if it stood there, and is else as it was.
 pub fn update_clips<A: Allocator>(
     session: &mut Session<A>,
     located: Option<PlacedClip>,

@@ -1,17 +1,24 @@
-//! What one operation more changes in every session: each law is the contract of a small function, which does nothing.
+//! What one operation more changes in every session: each law is the contract of a small function,
+//! which does nothing.
 
 ghost use Rattle.std.specs.Prelude.{List, ◌∷◌};
 ghost use Rattle.mt_op.specs.OpValue.{Op};
 ghost use Rattle.session_state.specs.Applying.{AreApplied};
-ghost use Rattle.session_update.specs.Updating.{ClipsAreFound, EntriesAreShown, EntriesStandOnce, MarkersAreFound, AppliedAreTheSession};
-ghost use Rattle.session_update.specs.Updating.{ClipsAreUpdated, IndexesTellTheOrder, ItemsAreOfAKind, MarkersAreUpdated, OtherTracksStay, PlacesAreUpdated, PlacesStayInOrder, TracksAreUpdated};
+ghost use Rattle.session_update.specs.Updating.{ClipsAreFound, EntriesAreShown, EntriesStandOnce};
+ghost use Rattle.session_update.specs.Updating.{MarkersAreFound, AppliedAreTheSession};
+ghost use Rattle.session_update.specs.Updating.{ClipsAreUpdated, IndexesTellTheOrder};
+ghost use Rattle.session_update.specs.Updating.{ItemsAreOfAKind, MarkersAreUpdated};
+ghost use Rattle.session_update.specs.Updating.{OtherTracksStay, PlacesAreUpdated};
+ghost use Rattle.session_update.specs.Updating.{PlacesStayInOrder, TracksAreUpdated};
 
-/// What operations show that were noted, in whatever order, is the session of every set of which they are the ready ones.
+/// What operations show that were noted, in whatever order, is the session of every set of which
+/// they are the ready ones.
 pub fn applied_session()
     ensures { AppliedAreTheSession }
 {}
 
-/// An entry of a stamp is the marker, the clip of a track or the track of this stamp that the session shows, and nothing else.
+/// An entry of a stamp is the marker, the clip of a track or the track of this stamp that the
+/// session shows, and nothing else.
 pub fn shown_entries()
     ensures { (ops : List Op) → AreApplied ops → EntriesAreShown ops }
 {}
@@ -26,8 +33,8 @@ pub fn updated_clips()
     ensures { ClipsAreUpdated }
 {}
 
-/// One more operation changes among the tracks that of its item, and in the others the clip that is its item, alone: the others stand
-/// in the order in which they stood.
+/// One more operation changes among the tracks that of its item, and in the others the clip that is
+/// its item, alone: the others stand in the order in which they stood.
 pub fn updated_tracks()
     ensures { TracksAreUpdated }
 {}
@@ -42,13 +49,14 @@ pub fn updated_places()
     ensures { PlacesAreUpdated }
 {}
 
-/// The places of tracks that were given before an operation stay in their order, whatever place it adds.
+/// The places of tracks that were given before an operation stay in their order, whatever place it
+/// adds.
 pub fn places_stay()
     ensures { PlacesStayInOrder }
 {}
 
-/// An item that is no marker leaves the markers, one that is no clip leaves the clips of every track, and one that is no track changes
-/// the clips of tracks alone.
+/// An item that is no marker leaves the markers, one that is no clip leaves the clips of every
+/// track, and one that is no track changes the clips of tracks alone.
 pub fn kinds_apart()
     ensures { (o : Op) (ops : List Op) → AreApplied (o ∷ ops) → ItemsAreOfAKind o ops }
 {}

@@ -1,6 +1,7 @@
 //! The markers of a session, mended by one operation more.
 
-ghost use Rattle.std.specs.Prelude.{◌≡◌, true, false, ◌&&◌, Option, None, option_map, if◌then◌else◌, IfOk, IfSome, OnOk, OnErr, ◌⊎◌};
+ghost use Rattle.std.specs.Prelude.{◌≡◌, true, false, ◌&&◌, Option, None, option_map};
+ghost use Rattle.std.specs.Prelude.{if◌then◌else◌, IfOk, IfSome, OnOk, OnErr, ◌⊎◌};
 ghost use Rattle.std.specs.List.{list_any};
 ghost use Rattle.mt_stamp.specs.StampOrder.{stamp_eq};
 ghost use Rattle.mt_op.specs.declared.need.Role.TheVariants.{Marker as MarkerRole};
@@ -59,8 +60,8 @@ fn marker_at<A: Allocator + Clone>(
     }))
 }
 
-/// The position, in frames, at which the session of the noted operations shows the marker of a stamp; `None` where it shows
-/// none. Takes the logarithm of the number of items, and no memory.
+/// The position, in frames, at which the session of the noted operations shows the marker of a
+/// stamp; `None` where it shows none. Takes the logarithm of the number of items, and no memory.
 pub fn marker_position<A: Allocator>(items: &ItemStates<A>, item: Stamp) -> Option<u32>
     ensures { result ≡ marker_position items.now item }
 {
@@ -72,21 +73,25 @@ pub fn marker_position<A: Allocator>(items: &ItemStates<A>, item: Stamp) -> Opti
 
 // Takes out the marker of a stamp that stood at a position.
 fn take_located<A: Allocator>(session: &mut Session<A>, located: Option<u32>, item: Stamp)
-    ensures { session.new ≡ record session.old { markers = without_located located item session.old.markers } }
+    ensures { session.new ≡ record session.old { markers = without_located located item
+        session.old.markers } }
 {
     if let Some(at) = located {
         let _taken = session.take_marker(at, item);
     }
 }
 
-// Puts a marker in: in the place of the one that stood, where it stays there, and else in its new place, after that one was taken out.
+// Puts a marker in: in the place of the one that stood, where it stays there, and else in its new
+// place, after that one was taken out.
 fn put_in<A: Allocator>(
     session: &mut Session<A>,
     located: Option<u32>,
     view: MarkerView<A>,
 ) -> Result<(), AllocError>
-    requires there { IfSome located (λ at. list_any (is_marker_at at view.marker) session.old.markers ≡ true) }
-    requires new { list_any (λ x. stamp_eq view.marker x.marker) (without_located located view.marker session.old.markers)
+    requires there { IfSome located (λ at. list_any (is_marker_at at view.marker)
+        session.old.markers ≡ true) }
+    requires new { list_any (λ x. stamp_eq view.marker x.marker)
+        (without_located located view.marker session.old.markers)
         ≡ false }
     ensures ok { OnOk result (session.new ≡ record session.old
         { markers = insert_by marker_cmp view (without_located located view.marker session.old.markers) }) }
@@ -101,11 +106,13 @@ fn put_in<A: Allocator>(
     session.put_marker(view)
 }
 
-/// Mends the markers of a session after one operation more was noted: takes out the marker that is its item, from the
-/// position at which it stood before (`marker_position` of the operations before), and puts in the one that the operations
-/// show now; where that stands at the same position it takes its place, and nothing moves. Takes as many comparisons as the
-/// logarithm of the number of markers and items, and moves what follows else. Refused
-/// only as `AllocError`, where an allocation failed: the session is then as it was, or lacks the marker that stood there, and that alone.
+/// Mends the markers of a session after one operation more was noted: takes out the marker that is
+/// its item, from the position at which it stood before (`marker_position` of the operations
+/// before), and puts in the one that the operations show now; where that stands at the same
+/// position it takes its place, and nothing moves. Takes as many comparisons as the logarithm of
+/// the number of markers and items, and moves what follows else. Refused only as `AllocError`,
+/// where an allocation failed: the session is then as it was, or lacks the marker that stood there,
+/// and that alone.
 pub fn update_markers<A: Allocator + Clone>(
     session: &mut Session<A>,
     located: Option<u32>,
@@ -115,7 +122,8 @@ pub fn update_markers<A: Allocator + Clone>(
     requires before { MarkersLocated items.now item located session.old.markers }
     ensures ok { OnOk result (session.new ≡ record session.old { markers = markers_in items.now }) }
     ensures left { OnErr result ((session.new ≡ session.old)
-        ⊎ (session.new ≡ record session.old { markers = without_located located item session.old.markers })) }
+        ⊎ (session.new ≡ record session.old { markers = without_located located item
+            session.old.markers })) }
 {
     match marker_at(items, item)? {
         Some(view) => put_in(session, located, view),

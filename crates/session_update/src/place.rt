@@ -45,8 +45,9 @@ fn put_place<A: Allocator>(list: &mut TrackList<A>, placed: Placed) -> Result<()
     }
 }
 
-/// Puts the place that an operation gives a track, if it gives one, into the list of the places of those noted before it. Looks
-/// at one place after another. Refused only as `AllocError`, where an allocation failed; the list is then unchanged.
+/// Puts the place that an operation gives a track, if it gives one, into the list of the places of
+/// those noted before it. Looks at one place after another. Refused only as `AllocError`, where an
+/// allocation failed; the list is then unchanged.
 pub fn add_place<A: Allocator>(
     list: &mut TrackList<A>,
     items: &ItemStates<A>,
@@ -55,7 +56,8 @@ pub fn add_place<A: Allocator>(
     requires follows { AreApplied (op.now ∷ items.now) }
     requires places { ArePlacesOf list.old items.now }
     ensures ok { OnOk result (ArePlacesOf list.new (op.now ∷ items.now)) }
-    ensures put_in { OnOk result (list.new ≡ with_placed (placed_of op.now.stamp op.now.act) list.old) }
+    ensures put_in { OnOk result (list.new ≡ with_placed (placed_of op.now.stamp op.now.act)
+        list.old) }
     ensures refused { OnErr result (list.new ≡ list.old) }
 {
     match place_given(op) {

@@ -15,8 +15,8 @@ use mt_tracklist::TrackList;
 use session_state::ItemStates;
 use std::alloc::{AllocError, Allocator};
 
-/// Where the item of a stamp stands in the session of the noted operations, for `mend` after one operation more about it. Takes
-/// the logarithm of the number of items, and no memory.
+/// Where the item of a stamp stands in the session of the noted operations, for `mend` after one
+/// operation more about it. Takes the logarithm of the number of items, and no memory.
 pub fn located<A: Allocator>(items: &ItemStates<A>, item: Stamp) -> Located
     ensures { result ≡ located_in items.now item }
 {
@@ -31,10 +31,12 @@ pub fn located<A: Allocator>(items: &ItemStates<A>, item: Stamp) -> Located
     }
 }
 
-/// Mends a session after one operation more was noted: takes the entry of its item out where it stood before (`stood` of the
-/// operations before), and puts in the one that they show now. `list` has the places of all of them (`add_place`), and the
-/// number held stays. Takes as long as `update_tracks`, `update_markers` or `update_clips`, by what the item is. Refused only as
-/// `AllocError`, where an allocation failed: the session is then as it was, or lacks the entry that stood there, and that alone.
+/// Mends a session after one operation more was noted: takes the entry of its item out where it
+/// stood before (`stood` of the operations before), and puts in the one that they show now. `list`
+/// has the places of all of them (`add_place`), and the number held stays. Takes as long as
+/// `update_tracks`, `update_markers` or `update_clips`, by what the item is. Refused only as
+/// `AllocError`, where an allocation failed: the session is then as it was, or lacks the entry that
+/// stood there, and that alone.
 pub fn update<A: Allocator + Clone>(
     alloc: &A,
     session: &mut Session<A>,

@@ -1,6 +1,7 @@
 //! The track that a session shows of a stamp, made anew.
 
-ghost use Rattle.std.specs.Prelude.{◌≡◌, true, false, ◌&&◌, Option, None, option_map, if◌then◌else◌, IfOk};
+ghost use Rattle.std.specs.Prelude.{◌≡◌, true, false, ◌&&◌, Option, None, option_map};
+ghost use Rattle.std.specs.Prelude.{if◌then◌else◌, IfOk};
 ghost use Rattle.std.specs.List.{filter_map};
 ghost use Rattle.std.specs.List.Sorted.{IsPermutation, IsSorted};
 ghost use Rattle.mt_op.specs.declared.need.Role.TheVariants.{Clip as ClipRole, Track as TrackRole};
@@ -59,8 +60,9 @@ fn sort_clips<A: Allocator>(clips: Vec<ClipView, A>) -> Result<Vec<ClipView, A>,
     Ok(sorted)
 }
 
-/// The clips that are present and on a track, in order: by position, and then by the stamp that gave their place. Looks at
-/// every clip, and takes n log n for the n that are on the track. Refused only as `AllocError`.
+/// The clips that are present and on a track, in order: by position, and then by the stamp that
+/// gave their place. Looks at every clip, and takes n log n for the n that are on the track.
+/// Refused only as `AllocError`.
 pub fn track_clips<A: Allocator + Clone>(
     alloc: A,
     items: &ItemStates<A>,
@@ -76,7 +78,8 @@ pub fn track_clips<A: Allocator + Clone>(
 
 // Whether the session shows a track of a stamp.
 fn is_shown<A: Allocator>(items: &ItemStates<A>, item: Stamp) -> bool
-    ensures { result ≡ (is_need_met items.now (need_of TrackRole item) && is_present items.now item) }
+    ensures { result ≡ (is_need_met items.now (need_of TrackRole item) && is_present items.now item)
+        }
 {
     let need = Need {
         stamp: item,
@@ -113,8 +116,9 @@ pub(crate) fn shown_with<A: Allocator + Clone>(
     }))
 }
 
-/// The track of a stamp with all its clips, where the session of the noted operations shows one: one that was added or that
-/// returns. Looks at every clip, and takes n log n for the n that are on the track. Refused only as `AllocError`.
+/// The track of a stamp with all its clips, where the session of the noted operations shows one:
+/// one that was added or that returns. Looks at every clip, and takes n log n for the n that are on
+/// the track. Refused only as `AllocError`.
 pub fn whole_track<A: Allocator + Clone>(
     alloc: A,
     items: &ItemStates<A>,

@@ -1,6 +1,7 @@
 //! The tracks of a session, mended by one operation more.
 
-ghost use Rattle.std.specs.Prelude.{◌≡◌, ◌≢◌, [], true, false, ◌&&◌, find, IfOk, IfSome, OnOk, OnErr};
+ghost use Rattle.std.specs.Prelude.{◌≡◌, ◌≢◌, [], true, false, ◌&&◌, find, IfOk, IfSome, OnOk};
+ghost use Rattle.std.specs.Prelude.{OnErr};
 ghost use Rattle.std.specs.List.{AllByRecursion, list_any};
 ghost use Rattle.std.specs.Ordering.{nat_cmp, is_lt};
 ghost use Rattle.std.specs.declared.cmp.Ordering.TheVariants.{Equal};
@@ -35,8 +36,8 @@ fn take_out<A: Allocator>(session: &mut Session<A>, item: Stamp) -> Option<Track
     }
 }
 
-// The track of a stamp, where it is shown: with the clips of the one that was taken out, or else with all its clips, of which one that
-// was not known before has none.
+// The track of a stamp, where it is shown: with the clips of the one that was taken out, or else
+// with all its clips, of which one that was not known before has none.
 fn track_now<A: Allocator + Clone>(
     alloc: &A,
     items: &ItemStates<A>,
@@ -143,12 +144,14 @@ fn put_shown<A: Allocator>(
     }
 }
 
-/// Mends the tracks of a session after one operation more was noted, whose item is a track: takes the track out where it
-/// stood, and puts it in where it stands now, if it is shown. One that stood there keeps its clips; one that returns gets all
-/// its clips anew, which takes a look at every clip; and one that was not `known` before (whether it was added, as `stood`
-/// tells) has none. `list` has the places of all noted operations (`add_place`). Looks at one track after another, and at one
-/// place after another as many times as the logarithm of the number of tracks; what follows the track moves. Refused only as
-/// `AllocError`, where an allocation failed: the session then lacks the track with its clips, if it stood there, and is else as it was.
+/// Mends the tracks of a session after one operation more was noted, whose item is a track: takes
+/// the track out where it stood, and puts it in where it stands now, if it is shown. One that stood
+/// there keeps its clips; one that returns gets all its clips anew, which takes a look at every
+/// clip; and one that was not `known` before (whether it was added, as `stood` tells) has none.
+/// `list` has the places of all noted operations (`add_place`). Looks at one track after another,
+/// and at one place after another as many times as the logarithm of the number of tracks; what
+/// follows the track moves. Refused only as `AllocError`, where an allocation failed: the session
+/// then lacks the track with its clips, if it stood there, and is else as it was.
 pub fn update_tracks<A: Allocator + Clone>(
     alloc: &A,
     session: &mut Session<A>,

@@ -2,7 +2,8 @@
 use Rattle.std.specs.IoError.{error_kind}
 use Rattle.std.specs.declared.io.Error.{Error}
 use Rattle.std.specs.declared.io.ErrorKind.TheVariants.{InvalidData}
-use Rattle.std.specs.Prelude.{◌≡◌, ◌≢◌, ℕ, ◌≤◌, Bool, true, false, List, [], ◌∷◌, ◌++◌, length, ◌==◌, Option, Some, None, option_map, Result, Ok, Err}
+use Rattle.std.specs.Prelude.{◌≡◌, ◌≢◌, ℕ, ◌≤◌, Bool, true, false, List, [], ◌∷◌, ◌++◌, length}
+use Rattle.std.specs.Prelude.{◌==◌, Option, Some, None, option_map, Result, Ok, Err}
 use Rattle.std.specs.Int.{w32, to_be_bytes}
 use Rattle.tokio_util.specs.declared.codec.length_delimited.LengthDelimitedCodec.{LengthDelimitedCodec}
 use Rattle.tokio_util.specs.declared.codec.length_delimited.DecodeState.{DecodeState}
@@ -32,7 +33,8 @@ pub record IsFraming (c : LengthDelimitedCodec) : Type 0 where
 
 -- what taking the next body answers over these bytes, and what it leaves
 abbrev pub TakesBody : List ℕ → Result (Option Body) FrameFault → List ℕ → Type 0
-TakesBody old (Ok (Some body)) new = (front_of old ≡ whole body.bytes.items new) × (body.is_last ≡ (length new == 0))
+TakesBody old (Ok (Some body)) new = (front_of old ≡ whole body.bytes.items new)
+    × (body.is_last ≡ (length new == 0))
 TakesBody old (Ok None) new = (front_of old ≡ cut_short) × (new ≡ old)
 TakesBody old (Err TooLong) new = (front_of old ≡ too_long) × (new ≡ old)
 TakesBody old (Err Memory) new = Unit {0}
@@ -55,6 +57,7 @@ is_too_long cut_short = false
 is_too_long (whole body rest) = false
 
 abbrev pub TakesSole : {X : Type 0} → (X → List ℕ) → List ℕ → Result (Option X) FrameFault → Type 0
-TakesSole view bytes (Ok body) = (option_map view body ≡ sole (front_of bytes)) × (is_too_long (front_of bytes) ≡ false)
+TakesSole view bytes (Ok body) = (option_map view body ≡ sole (front_of bytes))
+    × (is_too_long (front_of bytes) ≡ false)
 TakesSole view bytes (Err TooLong) = is_too_long (front_of bytes) ≡ true
 TakesSole view bytes (Err Memory) = ⊥

@@ -1,4 +1,5 @@
-//! Frames out of bytes that come in pieces: a body after its length in 4 bytes, the highest first, of at most 8,388,608 bytes.
+//! Frames out of bytes that come in pieces: a body after its length in 4 bytes, the highest first,
+//! of at most 8,388,608 bytes.
 //!
 //! ```rust
 //! use sync_framing::{Unread, put_frame};
@@ -20,8 +21,9 @@
 //! }
 //! ```
 //!
-//! Frames are taken by tokio_util's length-delimited codec out of a buffer of the crate `bytes`. The codec decodes out of a buffer
-//! on `Global` only; so its growth cannot be refused by a test's allocator.
+//! Frames are taken by tokio_util's length-delimited codec out of a buffer of the crate `bytes`.
+//! The codec decodes out of a buffer on `Global` only; so its growth cannot be refused by a test's
+//! allocator.
 #![tactic(auto)]
 
 pub mod laws;
@@ -116,8 +118,9 @@ impl Unread {
         self.buffer.clear();
     }
 
-    /// Takes the first frame where it is whole; `None` where it is not, and nothing changes. Refused as `TooLong` as soon as its four bytes
-    /// of length are there and over 8,388,608, and as `Memory` where an allocation failed.
+    /// Takes the first frame where it is whole; `None` where it is not, and nothing changes.
+    /// Refused as `TooLong` as soon as its four bytes of length are there and over 8,388,608, and
+    /// as `Memory` where an allocation failed.
     pub fn next(&mut self) -> Result<Option<Body>, FrameFault>
         ensures { TakesBody self.old result self.new }
     {
@@ -150,7 +153,8 @@ fn are_bytes(bytes: &[u8])
     let _ = bytes;
 }
 
-/// Appends the frame of a body: its length in 4 bytes, the highest first, and the body. Refused only where an allocation failed.
+/// Appends the frame of a body: its length in 4 bytes, the highest first, and the body. Refused
+/// only where an allocation failed.
 pub fn put_frame<A: Allocator>(out: &mut Vec<u8, A>, body: &[u8]) -> Result<(), AllocError>
     ensures { OnOk result (out.new.items ≡ out.old.items ++ frame_text body.now) }
 {
@@ -160,8 +164,8 @@ pub fn put_frame<A: Allocator>(out: &mut Vec<u8, A>, body: &[u8]) -> Result<(), 
     Ok(())
 }
 
-/// The body of bytes that are one frame and nothing more; `None` where they are not. Refused as `TooLong` where the length at their
-/// front is over 8,388,608. Takes no memory.
+/// The body of bytes that are one frame and nothing more; `None` where they are not. Refused as
+/// `TooLong` where the length at their front is over 8,388,608. Takes no memory.
 #[tactic(auto, using(crate::proofs::Sole::followed), unfolding(crate::specs::Frames::front_of))]
 pub fn sole_body(bytes: &[u8]) -> Result<Option<&[u8]>, FrameFault>
     ensures { TakesSole (λ body. body.now) bytes.now result }

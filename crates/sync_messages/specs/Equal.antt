@@ -1,6 +1,7 @@
 -- By what summaries are compared: of each replica its name, its run and its extras.
 use Rattle.std.specs.Prelude.{ℕ, Bool, List, ◌∷◌, nat_eq}
-use Rattle.std.specs.Cmp.{IsEquivalence, IsPartialEquivalence, on_per, on_equiv, partial_equiv_from_equiv}
+use Rattle.std.specs.Cmp.{IsEquivalence, IsPartialEquivalence, on_per, on_equiv}
+use Rattle.std.specs.Cmp.{partial_equiv_from_equiv}
 use Rattle.std.specs.Cmp.Lexicographic.{pointwise, nat_list_eq_equiv}
 use Rattle.sync_messages.specs.Summary.{SeenSeqs}
 

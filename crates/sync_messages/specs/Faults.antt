@@ -1,7 +1,8 @@
 -- The numbers of refusals (profile).
 use Rattle.std.specs.Prelude.{ℕ}
 use Rattle.sync_messages.specs.declared.fault.MessageFault.{MessageFault}
-use Rattle.sync_messages.specs.declared.fault.MessageFault.TheVariants.{Memory, BadMessage, FrameTooLong}
+use Rattle.sync_messages.specs.declared.fault.MessageFault.TheVariants.{Memory, BadMessage}
+use Rattle.sync_messages.specs.declared.fault.MessageFault.TheVariants.{FrameTooLong}
 
 abbrev pub number_of : MessageFault → ℕ
 number_of Memory = 0

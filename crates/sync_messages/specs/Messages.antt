@@ -1,5 +1,7 @@
 -- Messages and their texts (profile). Numbers have their greatest byte first.
-use Rattle.std.specs.Prelude.{ℕ, zero, suc, ◌+◌, ◌<◌, Bool, true, List, [], ◌∷◌, ◌++◌, length, Option, Some, None, Result, Ok, Err, nat_lt, nat_le, ◌==◌, ◌&&◌, if◌then◌else◌}
+use Rattle.std.specs.Prelude.{ℕ, zero, suc, ◌+◌, ◌<◌, Bool, true, List, [], ◌∷◌, ◌++◌, length}
+use Rattle.std.specs.Prelude.{Option, Some, None, Result, Ok, Err, nat_lt, nat_le, ◌==◌, ◌&&◌}
+use Rattle.std.specs.Prelude.{if◌then◌else◌}
 use Rattle.std.specs.List.{flat_map}
 use Rattle.std.specs.Int.{w32, w64, w128, to_be_bytes}
 use Rattle.mt_stamp.specs.StampOrder.{greatest}
@@ -24,7 +26,8 @@ pub data Message : Type 0 where
 -- ---- texts
 
 abbrev pub numbers_text : SeenSeqs → List ℕ
-numbers_text n = to_be_bytes w128 n.replica.0 ++ (to_be_bytes w64 n.run ++ (to_be_bytes w32 (length n.extras) ++ flat_map (to_be_bytes w64) n.extras))
+numbers_text n = to_be_bytes w128 n.replica.0 ++ (to_be_bytes w64 n.run
+    ++ (to_be_bytes w32 (length n.extras) ++ flat_map (to_be_bytes w64) n.extras))
 
 abbrev pub have_text : Summary → List ℕ
 have_text summary = 1 ∷ (to_be_bytes w32 (length summary) ++ flat_map numbers_text summary)
@@ -107,7 +110,8 @@ listed (Ok list) = Some (ops list)
 listed (Err fault) = None
 
 abbrev pub counted_ops : Reads ℕ → Option Message
-counted_ops (Ok (count, bytes)) = if count == 0 then None else listed (records_at newest_version count 0 None bytes)
+counted_ops (Ok (count, bytes)) = if count == 0 then None else listed
+    (records_at newest_version count 0 None bytes)
 counted_ops (Err fault) = None
 
 abbrev pub tagged_at : ℕ → List ℕ → Option Message
@@ -119,7 +123,8 @@ tagged_at tag bytes =
 
 unfoldable pub message_at : List ℕ → Option Message
 message_at [] = None
-message_at (tag ∷ bytes) = if nat_lt longest_body (length (tag ∷ bytes)) then None else tagged_at tag bytes
+message_at (tag ∷ bytes) = if nat_lt longest_body (length (tag ∷ bytes)) then None else tagged_at
+    tag bytes
 
 -- ---- what a message may say
 

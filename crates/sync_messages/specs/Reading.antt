@@ -2,7 +2,8 @@
 use Rattle.std.specs.Prelude.{◌≡◌, ◌<◌, ◌≤◌, ℕ, List, length, Option, Some, None, Result, Ok, Err}
 use Rattle.sync_framing.specs.Frames.{longest_body}
 use Rattle.sync_messages.specs.declared.fault.MessageFault.{MessageFault}
-use Rattle.sync_messages.specs.declared.fault.MessageFault.TheVariants.{Memory, BadMessage, FrameTooLong}
+use Rattle.sync_messages.specs.declared.fault.MessageFault.TheVariants.{Memory, BadMessage}
+use Rattle.sync_messages.specs.declared.fault.MessageFault.TheVariants.{FrameTooLong}
 use Rattle.sync_messages.specs.declared.message.Message.{Message as Kept}
 use Rattle.sync_messages.specs.declared.message.Message.TheVariants as kept
 use Rattle.sync_messages.specs.Messages.{Message, have, ops, bye}

@@ -1,6 +1,8 @@
--- What a summary says of a set of operations (profile): of each replica the longest run 1, 2 .. n of numbers that the set has, and
--- which others it has.
-use Rattle.std.specs.Prelude.{ℕ, ◌+◌, ◌<◌, ◌≤◌, ◌^◌, Bool, List, [], ◌∷◌, ◌++◌, length, nat_le, nat_lt, not, ◌==◌, ◌&&◌, ◌||◌, if◌then◌else◌, Option, Some, None, IsTrue}
+-- What a summary says of a set of operations (profile): of each replica the longest run 1, 2 .. n
+-- of numbers that the set has, and which others it has.
+use Rattle.std.specs.Prelude.{ℕ, ◌+◌, ◌<◌, ◌≤◌, ◌^◌, Bool, List, [], ◌∷◌, ◌++◌, length, nat_le}
+use Rattle.std.specs.Prelude.{nat_lt, not, ◌==◌, ◌&&◌, ◌||◌, if◌then◌else◌, Option, Some, None}
+use Rattle.std.specs.Prelude.{IsTrue}
 use Rattle.std.specs.List.{filter, list_any}
 use Rattle.std.specs.Ordering.{nat_cmp}
 use Rattle.mt_stamp.specs.declared.name.Replica.{Replica}
@@ -35,7 +37,8 @@ covers summary dot = list_any (λ n. covers_dot n dot) summary
 
 -- one number more, greater than all before: it lengthens the run, or is an extra
 abbrev pub with_number : SeenSeqs → ℕ → SeenSeqs
-with_number n seq = if seq == n.run + 1 then record n { run = seq } else record n { extras = n.extras ++ seq ∷ [] }
+with_number n seq = if seq == n.run + 1 then record n { run = seq } else record n
+    { extras = n.extras ++ seq ∷ [] }
 
 -- the numbers of a replica that has this one
 abbrev pub numbers_of : Dot → SeenSeqs
@@ -47,10 +50,12 @@ summary_after None [] = []
 summary_after (Some n) [] = n ∷ []
 summary_after None (o ∷ ops) = summary_after (Some (numbers_of (op_dot o))) ops
 summary_after (Some n) (o ∷ ops) =
-    if n.replica.0 == (op_dot o).replica.0 then summary_after (Some (with_number n (op_dot o).seq)) ops
+    if n.replica.0 == (op_dot o).replica.0 then summary_after (Some (with_number n (op_dot o).seq))
+        ops
     else n ∷ summary_after (Some (numbers_of (op_dot o))) ops
 
--- the summary of a set: what it covers are the set's dots, and no run can be longer (`laws::summaries`)
+-- the summary of a set: what it covers are the set's dots, and no run can be longer
+-- (`laws::summaries`)
 unfoldable pub summary_of : LogMap → Summary
 summary_of set = summary_after None (operations set)
 
@@ -75,7 +80,8 @@ pub record AreNumbers (n : SeenSeqs) : Type 0 where
 -- each replica is greater than the one before
 abbrev pub SummaryRises : Option ℕ → Summary → Type 0
 SummaryRises last [] = Unit {0}
-SummaryRises last (n ∷ summary) = IsTrue (is_after nat_cmp last n.replica.0) × AreNumbers n × SummaryRises (Some n.replica.0) summary
+SummaryRises last (n ∷ summary) = IsTrue (is_after nat_cmp last n.replica.0) × AreNumbers n
+    × SummaryRises (Some n.replica.0) summary
 
 abbrev pub IsSummary : Summary → Type 0
 IsSummary summary = SummaryRises None summary

@@ -7,7 +7,8 @@ ghost use Rattle.sync_messages.specs.declared.fault.MessageFault.TheVariants.{Me
 use std::alloc::{AllocError, AllocFailed};
 use thiserror::Error;
 
-/// Why bytes are no message, or a message cannot be written. Each refusal has a number that never changes.
+/// Why bytes are no message, or a message cannot be written. Each refusal has a number that never
+/// changes.
 #[derive(Clone, Copy, Debug, PartialEq, Eq, Error)]
 pub enum MessageFault {
     /// A growth was refused.

@@ -12,8 +12,8 @@ use mt_opcodec::Log;
 use mt_stamp::{Dot, Replica};
 use std::alloc::{AllocError, Allocator};
 
-/// Copies of a log's operations that a summary does not cover, by rising dot, in one walk of the log and the summary together.
-/// Refused only as `Memory` (0).
+/// Copies of a log's operations that a summary does not cover, by rising dot, in one walk of the
+/// log and the summary together. Refused only as `Memory` (0).
 #[tactic(auto, unfolding(crate::specs::Summary::lacking))]
 pub fn lacking<A: Allocator + Clone, B: Allocator>(
     alloc: A,
@@ -65,7 +65,8 @@ fn push_unless<A: Allocator + Clone>(
     is_covered: bool,
     op: &Op<A>,
 ) -> Result<(), AllocError>
-    ensures ok { OnOk result (ops.new.items ≡ ops.old.items ++ (if is_covered then [] else op.now ∷ [])) }
+    ensures ok { OnOk result (ops.new.items ≡ ops.old.items
+        ++ (if is_covered then [] else op.now ∷ [])) }
 {
     if is_covered {
         return Ok(());

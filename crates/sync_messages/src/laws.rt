@@ -1,7 +1,9 @@
-//! What holds of summaries and messages: each law is the contract of a small function, which does nothing or only compares.
+//! What holds of summaries and messages: each law is the contract of a small function, which does
+//! nothing or only compares.
 
 ghost use Rattle.std.specs.Prelude.{◌≡◌, ◌↔◌, IsTrue};
-ghost use Rattle.sync_messages.specs.Laws.{IsSummaryOf, RunsAreGreatest, MessageTexts, PacksAreGreedy};
+ghost use Rattle.sync_messages.specs.Laws.{IsSummaryOf, RunsAreGreatest, MessageTexts};
+ghost use Rattle.sync_messages.specs.Laws.{PacksAreGreedy};
 ghost use Rattle.sync_messages.specs.Reading.{message_of};
 
 use crate::message::Message;
@@ -28,8 +30,8 @@ pub fn texts()
     ensures { MessageTexts }
 {}
 
-/// Operations are cut into messages from the left: one after another they are the list, none is empty, each fits a frame, and the
-/// next operation would not have.
+/// Operations are cut into messages from the left: one after another they are the list, none is
+/// empty, each fits a frame, and the next operation would not have.
 pub fn packs()
     ensures { PacksAreGreedy }
 {}
@@ -41,14 +43,16 @@ pub fn equal_numbers<A: Allocator>(numbers: &SeenSeqs<A>, other: &SeenSeqs<A>) -
     numbers == other
 }
 
-/// Summaries are equal where they say the same of each replica: so, as each log has one summary, where they cover the same dots.
+/// Summaries are equal where they say the same of each replica: so, as each log has one summary,
+/// where they cover the same dots.
 pub fn equal_summaries<A: Allocator>(summary: &Summary<A>, other: &Summary<A>) -> bool
     ensures { IsTrue result ↔ (summary.now ≡ other.now) }
 {
     summary == other
 }
 
-/// Messages are equal where they are of one kind and say the same: the same summary, or the same operations.
+/// Messages are equal where they are of one kind and say the same: the same summary, or the same
+/// operations.
 pub fn equal_messages<A: Allocator>(message: &Message<A>, other: &Message<A>) -> bool
     ensures { IsTrue result ↔ (message_of message.now ≡ message_of other.now) }
 {

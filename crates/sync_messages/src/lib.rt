@@ -1,7 +1,8 @@
 //! Summaries of logs, and the messages of a conversation.
 //!
-//! A `Summary` tells which operations a log has, in a few bytes for each replica, and `lacking` gives those of another log that it does not
-//! cover. A `Message` carries either from one editor to the other:
+//! A `Summary` tells which operations a log has, in a few bytes for each replica, and `lacking`
+//! gives those of another log that it does not cover. A `Message` carries either from one editor to
+//! the other:
 //!
 //! ```rust
 //! use mt_op::{Body, Op, Title};

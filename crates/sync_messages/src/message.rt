@@ -8,7 +8,8 @@ ghost use Rattle.mt_op.specs.Dots.{dots_rise};
 ghost use Rattle.mt_op.specs.Rising.{is_after};
 ghost use Rattle.mt_op.specs.Valid.{IsOp};
 ghost use Rattle.mt_opcodec.specs.OpReading.{number_at};
-ghost use Rattle.sync_messages.specs.Messages.{whole_have, counted_at, counted_ops, tagged_at, message_at, message_text, IsMessage};
+ghost use Rattle.sync_messages.specs.Messages.{whole_have, counted_at, counted_ops, tagged_at};
+ghost use Rattle.sync_messages.specs.Messages.{message_at, message_text, IsMessage};
 ghost use Rattle.sync_messages.specs.Reading.{ReadsAs, WritesAs, message_of};
 
 use crate::fault::MessageFault;
@@ -20,7 +21,8 @@ use mt_opcodec::{LogFault, ReadFault, read_ops, u32_at};
 use mt_stamp::{Dot, List};
 use std::alloc::{AllocError, Allocator, Global};
 
-/// What one end of a conversation tells the other: the summary of its log, operations, or that it has told all.
+/// What one end of a conversation tells the other: the summary of its log, operations, or that it
+/// has told all.
 #[derive(Drop)]
 #[derive_where(PartialEq, Eq)]
 pub enum Message<A: Allocator = Global> {
@@ -36,13 +38,15 @@ pub enum Message<A: Allocator = Global> {
 pub(crate) const LONGEST_BODY: usize = 8_388_608;
 
 impl<A: Allocator + Clone> Message<A> {
-    /// Reads the body of a frame. Refused as `BadMessage` (38) where it is the text of no message or longer than 8,388,608 bytes,
-    /// and as `Memory` (0) where an allocation failed. Memory is taken as items are read, never for a count.
+    /// Reads the body of a frame. Refused as `BadMessage` (38) where it is the text of no message
+    /// or longer than 8,388,608 bytes, and as `Memory` (0) where an allocation failed. Memory is
+    /// taken as items are read, never for a count.
     ///
-    /// A Have is the byte 1, the number of replicas in 4 bytes, and for each replica, rising, its 16 bytes, its run in 8, the
-    /// number of extras in 4, and each extra in 8, rising; the run is at most 2^62, each extra greater than the run and 1 and at most
-    /// 2^62, and a replica has a run or an extra. Ops are the byte 2, their number in 4 bytes, from 1, and the texts of
-    /// the operations by rising dot. Bye is the byte 3.
+    /// A Have is the byte 1, the number of replicas in 4 bytes, and for each replica, rising, its
+    /// 16 bytes, its run in 8, the number of extras in 4, and each extra in 8, rising; the run is
+    /// at most 2^62, each extra greater than the run and 1 and at most 2^62, and a replica has a
+    /// run or an extra. Ops are the byte 2, their number in 4 bytes, from 1, and the texts of the
+    /// operations by rising dot. Bye is the byte 3.
     #[tactic(auto, unfolding(crate::specs::Messages::message_at))]
     pub fn read(alloc: A, body: &[u8]) -> Result<Self, MessageFault>
         ensures { ReadsAs (message_at body.now) result }
@@ -56,8 +60,8 @@ impl<A: Allocator + Clone> Message<A> {
         tagged_of(alloc, *tag, rest)
     }
 
-    /// Whether the message may be written: one of operations has at least one, and their dots rise. Takes
-    /// no memory; its time is linear in the operations.
+    /// Whether the message may be written: one of operations has at least one, and their dots rise.
+    /// Takes no memory; its time is linear in the operations.
     pub fn is_well_formed(&self) -> bool
         ensures { IsTrue result ↔ IsMessage (message_of self.now) }
     {
@@ -72,7 +76,8 @@ impl<A: Allocator + Clone> Message<A> {
         }
     }
 
-    /// The body of a frame, of a message that is well-formed (`is_well_formed`). Refused as `FrameTooLong` (40) where it is longer than 8,388,608 bytes, so too where a number of items
+    /// The body of a frame, of a message that is well-formed (`is_well_formed`). Refused as
+    /// `FrameTooLong` (40) where it is longer than 8,388,608 bytes, so too where a number of items
     /// does not fit its 4 bytes, and as `Memory` (0) where an allocation failed.
     pub fn write(&self, alloc: A) -> Result<Vec<u8, A>, MessageFault>
         requires { IsMessage (message_of self.now) }

@@ -1,15 +1,16 @@
 //! What a summary says of one replica.
 
 ghost use Rattle.std.specs.Prelude.{◌≡◌, ℕ, ◌==◌, [], IfOk};
-ghost use Rattle.sync_messages.specs.Summary.{with_number, numbers_of, has_number, covers_dot, AreNumbers, ExtrasRise};
+ghost use Rattle.sync_messages.specs.Summary.{with_number, numbers_of, has_number, covers_dot};
+ghost use Rattle.sync_messages.specs.Summary.{AreNumbers, ExtrasRise};
 ghost use Rattle.std.specs.List.{list_any};
 
 use mt_stamp::{Dot, Replica};
 use std::alloc::{AllocError, Allocator, Global};
 use std::marker::Model;
 
-/// Which numbers of one replica's operations are there: those from 1 to `run`, and the extras, which rise. Seen as the record of
-/// the three.
+/// Which numbers of one replica's operations are there: those from 1 to `run`, and the extras,
+/// which rise. Seen as the record of the three.
 #[derive(Drop)]
 pub struct SeenSeqs<A: Allocator = Global> {
     replica: Replica,

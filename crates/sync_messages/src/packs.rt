@@ -11,9 +11,9 @@ use mt_op::Op;
 use mt_opcodec::write_op;
 use std::alloc::{AllocError, Allocator};
 
-/// Appends operations, by rising dot, as frames of Ops: cut from the left, each message taking as many as fit in 8,388,608 bytes, of
-/// which one always does. No operations, no frame. Refused only where an allocation failed; `out` then holds what it held and a
-/// part of the frames.
+/// Appends operations, by rising dot, as frames of Ops: cut from the left, each message taking as
+/// many as fit in 8,388,608 bytes, of which one always does. No operations, no frame. Refused only
+/// where an allocation failed; `out` then holds what it held and a part of the frames.
 #[tactic(auto, unfolding(crate::specs::Messages::ops_frames))]
 pub fn put_ops_frames<A: Allocator + Clone, B: Allocator>(
     out: &mut Vec<u8, A>,
@@ -44,8 +44,8 @@ fn text_of<A: Allocator + Clone, B: Allocator>(
     Ok(text)
 }
 
-// Puts the message of the operations from this place on, where it has no room for this text, and answers from where on the next
-// operations stand in one message.
+// Puts the message of the operations from this place on, where it has no room for this text, and
+// answers from where on the next operations stand in one message.
 fn make_room<A: Allocator>(
     out: &mut Vec<u8, A>,
     texts: &mut Vec<u8, A>,
@@ -54,7 +54,8 @@ fn make_room<A: Allocator>(
     text: &[u8],
 ) -> Result<usize, AllocError>
     requires { from ≤ i }
-    ensures { IfOk result (λ place. MakesRoom from i (length text.now) texts.old.items out.old.items place texts.new.items out.new.items) }
+    ensures { IfOk result (λ place. MakesRoom from i (length text.now) texts.old.items out.old.items
+        place texts.new.items out.new.items) }
 {
     if from < i && texts.len() + text.len() > LONGEST_BODY - 5 {
         put_pack(out, i - from, texts)?;

@@ -5,7 +5,8 @@ ghost use Rattle.std.specs.Ordering.{nat_cmp};
 ghost use Rattle.mt_stamp.specs.StampOrder.{greatest};
 ghost use Rattle.mt_op.specs.Rising.{is_after};
 ghost use Rattle.mt_opcodec.specs.OpReading.{Gives};
-ghost use Rattle.sync_messages.specs.Messages.{extra_at, extras_at, run_at, has_some, said, numbers_at, next_at, summary_at, counted_at};
+ghost use Rattle.sync_messages.specs.Messages.{extra_at, extras_at, run_at, has_some, said};
+ghost use Rattle.sync_messages.specs.Messages.{numbers_at, next_at, summary_at, counted_at};
 
 use crate::numbers::SeenSeqs;
 use mt_opcodec::{ReadFault, u32_at, u64_at, u128_at};
@@ -65,7 +66,8 @@ fn run_of(bytes: &[u8]) -> Result<(u64, &[u8]), ReadFault>
 // Whether some number is there.
 fn has_some(run: u64, extras: &[u64]) -> bool
     requires { run ≤ greatest }
-    ensures { result ≡ has_some (record { replica = record { 0 = 0 }; run = run; extras = extras.now }) }
+    ensures { result ≡ has_some (record { replica = record { 0 = 0 }; run = run; extras = extras.now
+        }) }
 {
     run > 0 || !extras.is_empty()
 }

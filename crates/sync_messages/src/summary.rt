@@ -12,8 +12,8 @@ use mt_stamp::Dot;
 use std::alloc::{AllocError, Allocator, Global};
 use std::marker::Model;
 
-/// Which operations a log has, by their dots: of each replica, by rising replica, the longest run of numbers from 1 on, and the
-/// others. Seen as the list of what it says of each replica.
+/// Which operations a log has, by their dots: of each replica, by rising replica, the longest run
+/// of numbers from 1 on, and the others. Seen as the list of what it says of each replica.
 #[derive(Drop)]
 pub struct Summary<A: Allocator = Global> {
     all: Vec<SeenSeqs<A>, A>,

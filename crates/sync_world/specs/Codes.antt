@@ -8,7 +8,11 @@ use Rattle.mt_replica.specs.Codes.{log_code}
 use Rattle.sync_world.specs.World.{Peer, World}
 
 abbrev pub peer_code : Coded Peer
-peer_code = code_by ((ℕ × LogMap) × LogMap) (coded× (coded× coded_ℕ log_code) log_code) (λ p. ((p.name.0, p.taken), p.saved)) (λ q. record { name = record { 0 = q.0.0 }; taken = q.0.1; saved = q.1 }) (λ _. refl)
+peer_code = code_by ((ℕ × LogMap) × LogMap) (coded× (coded× coded_ℕ log_code) log_code)
+    (λ p. ((p.name.0, p.taken), p.saved)) (λ q. record
+    { name = record { 0 = q.0.0 }; taken = q.0.1; saved = q.1 }) (λ _. refl)
 
 abbrev pub world_code : Coded World
-world_code = code_by (List Peer × List Op) (coded× (coded_list peer_code) (coded_list operation_code)) (λ w. (w.peers, w.sent)) (λ p. record { peers = p.0; sent = p.1 }) (λ _. refl)
+world_code = code_by (List Peer × List Op) (coded× (coded_list peer_code)
+    (coded_list operation_code)) (λ w. (w.peers, w.sent)) (λ p. record { peers = p.0; sent = p.1 })
+    (λ _. refl)

@@ -32,38 +32,51 @@ marker stamp at title = record { marker = stamp; at = at; len = 0; title = title
 abbrev pub shown : List Marker → ℕ → Session
 shown markers held = record { tracks = []; markers = markers; held = held }
 
--- What was not saved is gone with a restart, and its number is given again; a second take, and a take of what was not sent, change nothing.
+-- What was not saved is gone with a restart, and its number is given again; a second take, and a
+-- take of what was not sent, change nothing.
 abbrev pub restarting : List Event
-restarting = Edits 0 (AddMarker 1 (codes "X")) ∷ Restarts 0 ∷ Edits 0 (AddMarker 2 (codes "Y")) ∷ Saves 0 ∷ Takes 1 0 ∷ Takes 1 0 ∷ Takes 1 5 ∷ []
+restarting = Edits 0 (AddMarker 1 (codes "X")) ∷ Restarts 0 ∷ Edits 0 (AddMarker 2 (codes "Y"))
+    ∷ Saves 0 ∷ Takes 1 0 ∷ Takes 1 0 ∷ Takes 1 5 ∷ []
 
 abbrev pub RestartedWorld : Type 0
 RestartedWorld = Shows (world_of two restarting) (adds (by 1 10 1) 2 (codes "Y") ∷ [])
-    (shown (marker (by 1 10 1) 2 (codes "Y") ∷ []) 0 ∷ shown (marker (by 1 10 1) 2 (codes "Y") ∷ []) 0 ∷ [])
+    (shown (marker (by 1 10 1) 2 (codes "Y") ∷ []) 0 ∷ shown (marker (by 1 10 1) 2 (codes "Y") ∷ [])
+        0 ∷ [])
 
 -- A restart takes back what was taken and made since the last save, and what was saved stays.
 abbrev pub losing : List Event
-losing = Edits 0 (AddMarker 1 (codes "X")) ∷ Edits 1 (AddMarker 2 (codes "Y")) ∷ Saves 0 ∷ Saves 1 ∷ Takes 0 1 ∷ Takes 1 0 ∷ Edits 1 (Remove (by 1 10 1)) ∷ Restarts 1 ∷ []
+losing = Edits 0 (AddMarker 1 (codes "X")) ∷ Edits 1 (AddMarker 2 (codes "Y")) ∷ Saves 0 ∷ Saves 1
+    ∷ Takes 0 1 ∷ Takes 1 0 ∷ Edits 1 (Remove (by 1 10 1)) ∷ Restarts 1 ∷ []
 
 abbrev pub LostRemoval : Type 0
-LostRemoval = Shows (world_of two losing) (adds (by 1 10 1) 1 (codes "X") ∷ adds (by 1 11 1) 2 (codes "Y") ∷ [])
-    (shown (marker (by 1 10 1) 1 (codes "X") ∷ marker (by 1 11 1) 2 (codes "Y") ∷ []) 0 ∷ shown (marker (by 1 11 1) 2 (codes "Y") ∷ []) 0 ∷ [])
+LostRemoval = Shows (world_of two losing) (adds (by 1 10 1) 1 (codes "X")
+    ∷ adds (by 1 11 1) 2 (codes "Y") ∷ [])
+    (shown (marker (by 1 10 1) 1 (codes "X") ∷ marker (by 1 11 1) 2 (codes "Y") ∷ []) 0
+        ∷ shown (marker (by 1 11 1) 2 (codes "Y") ∷ []) 0 ∷ [])
 
 -- What comes before what it needs waits for it.
 abbrev pub retitling : List Event
-retitling = Edits 0 (AddMarker 1 (codes "X")) ∷ Edits 0 (Retitle (by 1 10 1) (codes "Z")) ∷ Saves 0 ∷ Takes 1 1 ∷ []
+retitling = Edits 0 (AddMarker 1 (codes "X")) ∷ Edits 0 (Retitle (by 1 10 1) (codes "Z")) ∷ Saves 0
+    ∷ Takes 1 1 ∷ []
 
 abbrev pub retitled : List Op
-retitled = adds (by 1 10 1) 1 (codes "X") ∷ record { stamp = by 2 10 2; act = act.Retitle (by 1 10 1) (codes "Z") } ∷ []
+retitled = adds (by 1 10 1) 1 (codes "X") ∷ record
+    { stamp = by 2 10 2; act = act.Retitle (by 1 10 1) (codes "Z") } ∷ []
 
 abbrev pub HeldRetitle : Type 0
-HeldRetitle = Shows (world_of two retitling) retitled (shown (marker (by 1 10 1) 1 (codes "Z") ∷ []) 0 ∷ shown [] 1 ∷ [])
+HeldRetitle = Shows (world_of two retitling) retitled
+    (shown (marker (by 1 10 1) 1 (codes "Z") ∷ []) 0 ∷ shown [] 1 ∷ [])
 
 abbrev pub MetRetitle : Type 0
-MetRetitle = Shows (world_of two (retitling ++ Takes 1 0 ∷ [])) retitled (shown (marker (by 1 10 1) 1 (codes "Z") ∷ []) 0 ∷ shown (marker (by 1 10 1) 1 (codes "Z") ∷ []) 0 ∷ [])
+MetRetitle = Shows (world_of two (retitling ++ Takes 1 0 ∷ [])) retitled
+    (shown (marker (by 1 10 1) 1 (codes "Z") ∷ []) 0 ∷ shown (marker (by 1 10 1) 1 (codes "Z") ∷ [])
+    0 ∷ [])
 
 -- What was saved twice was sent once.
 abbrev pub saving_twice : List Event
-saving_twice = Edits 0 (AddMarker 1 (codes "X")) ∷ Restarts 0 ∷ Edits 0 (AddMarker 2 (codes "Y")) ∷ Saves 0 ∷ Saves 0 ∷ []
+saving_twice = Edits 0 (AddMarker 1 (codes "X")) ∷ Restarts 0 ∷ Edits 0 (AddMarker 2 (codes "Y"))
+    ∷ Saves 0 ∷ Saves 0 ∷ []
 
 abbrev pub SavedTwice : Type 0
-SavedTwice = Shows (world_of two saving_twice) (adds (by 1 10 1) 2 (codes "Y") ∷ []) (shown (marker (by 1 10 1) 2 (codes "Y") ∷ []) 0 ∷ shown [] 0 ∷ [])
+SavedTwice = Shows (world_of two saving_twice) (adds (by 1 10 1) 2 (codes "Y") ∷ [])
+    (shown (marker (by 1 10 1) 2 (codes "Y") ∷ []) 0 ∷ shown [] 0 ∷ [])

@@ -20,11 +20,13 @@ IsPeerAt world editor peer = slice_get world.peers editor ≡ Some peer
 
 -- it was sent, or an editor has taken it
 abbrev pub IsAnywhere : World → Op → Type 0
-IsAnywhere world o = Contains world.sent o ⊎ ((editor : ℕ) × (peer : Peer) × IsPeerAt world editor peer × Has peer.taken o)
+IsAnywhere world o = Contains world.sent o ⊎ ((editor : ℕ) × (peer : Peer)
+    × IsPeerAt world editor peer × Has peer.taken o)
 
 -- What was sent and all that was taken is one log: no two different operations have one dot.
 abbrev pub OneUnderEachDot : World → Type 0
-OneUnderEachDot world = (o p : Op) → IsAnywhere world o → IsAnywhere world p → op_dot o ≡ op_dot p → o ≡ p
+OneUnderEachDot world = (o p : Op) → IsAnywhere world o → IsAnywhere world p → op_dot o ≡ op_dot p
+    → o ≡ p
 
 -- What was sent stands once in the list, however often it was saved: its dots differ.
 abbrev pub SentOnce : World → Type 0
@@ -32,24 +34,32 @@ SentOnce world = DifferBy op_dot world.sent
 
 -- No take meets another operation under the dot of what was sent.
 abbrev pub NoTakeConflicts : World → Type 0
-NoTakeConflicts world = (editor : ℕ) (peer : Peer) (o p : Op) → IsPeerAt world editor peer → Contains world.sent o → map.get peer.taken (op_dot o) ≡ Some p → p ≡ o
+NoTakeConflicts world = (editor : ℕ) (peer : Peer) (o p : Op) → IsPeerAt world editor peer
+    → Contains world.sent o → map.get peer.taken (op_dot o) ≡ Some p → p ≡ o
 
 -- What an edit makes is then in its author's set, and its own.
 abbrev pub MadeIsTaken : World → Type 0
-MadeIsTaken world = (editor : ℕ) (peer : Peer) (edit : Edit) (o : Op) → IsPeerAt world editor peer → made (operations peer.taken) peer.name edit ≡ Ok o → Has (edited peer edit).taken o × (o.stamp.replica ≡ peer.name)
+MadeIsTaken world = (editor : ℕ) (peer : Peer) (edit : Edit) (o : Op) → IsPeerAt world editor peer
+    → made (operations peer.taken) peer.name edit ≡ Ok o → Has (edited peer edit).taken o
+    × (o.stamp.replica ≡ peer.name)
 
 -- What an editor has taken stays there through every event but a restart of that editor.
 abbrev pub StaysUntilRestart : World → Type 0
-StaysUntilRestart world = (happening : Event) (editor : ℕ) (old new : Peer) (o : Op) → IsPeerAt world editor old → IsPeerAt (step world happening) editor new → happening ≢ Restarts editor → Has old.taken o → Has new.taken o
+StaysUntilRestart world = (happening : Event) (editor : ℕ) (old new : Peer) (o : Op)
+    → IsPeerAt world editor old → IsPeerAt (step world happening) editor new
+    → happening ≢ Restarts editor → Has old.taken o → Has new.taken o
 
 -- Each of an editor's own operations is ready in its set while that has it.
 abbrev pub ReadyAtItsAuthor : World → Type 0
-ReadyAtItsAuthor world = (editor : ℕ) (peer : Peer) (o : Op) → IsPeerAt world editor peer → Has peer.taken o → o.stamp.replica ≡ peer.name → IsReadyIn peer.taken o
+ReadyAtItsAuthor world = (editor : ℕ) (peer : Peer) (o : Op) → IsPeerAt world editor peer
+    → Has peer.taken o → o.stamp.replica ≡ peer.name → IsReadyIn peer.taken o
 
 -- Who has taken every sent operation holds nothing back.
 abbrev pub NothingHeldBack : World → Type 0
-NothingHeldBack world = (editor : ℕ) (peer : Peer) → IsPeerAt world editor peer → ((o : Op) → Contains world.sent o → Has peer.taken o) → held_ops (operations peer.taken) ≡ []
+NothingHeldBack world = (editor : ℕ) (peer : Peer) → IsPeerAt world editor peer
+    → ((o : Op) → Contains world.sent o → Has peer.taken o) → held_ops (operations peer.taken) ≡ []
 
 -- after every list of events, between editors whose names differ
 abbrev pub InEveryWorld : (World → Type 0) → Type 0
-InEveryWorld Holds = (names : List Replica) (happenings : List Event) → NamesDiffer names → Holds (world_of names happenings)
+InEveryWorld Holds = (names : List Replica) (happenings : List Event) → NamesDiffer names
+    → Holds (world_of names happenings)

@@ -7,19 +7,21 @@ use Rattle.sync_world.specs.declared.fault.WorldFault.TheVariants.{Memory, SameN
 
 -- no name stands twice
 abbrev pub NamesDiffer : List Replica → Type 0
-NamesDiffer names = (i j : ℕ) (name : Replica) → slice_get names i ≡ Some name → slice_get names j ≡ Some name → i ≡ j
+NamesDiffer names = (i j : ℕ) (name : Replica) → slice_get names i ≡ Some name → slice_get names j
+    ≡ Some name → i ≡ j
 
 -- the name at an index stands before it too
 abbrev pub StandsBefore : List Replica → ℕ → Type 0
-StandsBefore names i = (name : Replica) × (j : ℕ) × (j < i) × (slice_get names i ≡ Some name) × (slice_get names j ≡ Some name)
+StandsBefore names i = (name : Replica) × (j : ℕ) × (j < i) × (slice_get names i ≡ Some name)
+    × (slice_get names j ≡ Some name)
 
 -- the least index whose name stands before it
 pub record IsFirstRepeat (names : List Replica) (i : ℕ) : Type 0 where
   pub repeats : StandsBefore names i
   pub least : (k : ℕ) → k < i → StandsBefore names k → ⊥
 
--- A run answers the world of these events where the names differ, and else the least index whose name stands before it. It asks for
--- no memory before it knows that they differ.
+-- A run answers the world of these events where the names differ, and else the least index whose
+-- name stands before it. It asks for no memory before it knows that they differ.
 abbrev pub RunGives : List Replica → List Event → Result World WorldFault → Type 0
 RunGives names happenings (Ok world) = NamesDiffer names × (world ≡ world_of names happenings)
 RunGives names happenings (Err (SameName index)) = IsFirstRepeat names index

@@ -11,7 +11,8 @@ use Rattle.sync_world.specs.declared.seat.Peer.{Peer as PeerFields}
 use Rattle.sync_world.specs.World.{Peer, World, is_sent}
 
 abbrev pub peer_from : Editor → LogMap → Peer
-peer_from kept saved = record { name = kept.name; taken = unwrap_or kept.log map.empty; saved = saved }
+peer_from kept saved = record { name = kept.name; taken = unwrap_or kept.log map.empty; saved =
+    saved }
 
 abbrev pub peer_of : {A : Type 0} → PeerFields A → Peer
 peer_of seat = peer_from seat.editor seat.saved
@@ -29,7 +30,8 @@ AreWhole seats = All IsWhole seats
 
 -- what an editor has saved was sent
 abbrev pub SavedIsSent : World → Type 0
-SavedIsSent world = (i : ℕ) (peer : Peer) → slice_get world.peers i ≡ Some peer → (o : Op) → Has peer.saved o → is_sent world.sent o ≡ true
+SavedIsSent world = (i : ℕ) (peer : Peer) → slice_get world.peers i ≡ Some peer → (o : Op)
+    → Has peer.saved o → is_sent world.sent o ≡ true
 
 -- no editor has failed, and all that was saved was sent
 pub record IsSound {A : Type 0} (seats : List (PeerFields A)) (sent : List Op) : Type 0 where

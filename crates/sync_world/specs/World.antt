@@ -1,6 +1,9 @@
--- Editors that work, save, send and crash, one event after another (crash recovery from stable storage: Cachin, Guerraoui and
--- Rodrigues, Introduction to Reliable and Secure Distributed Programming, 2011, section 2.2; which events there are: profile).
-use Rattle.std.specs.Prelude.{ℕ, Bool, not, List, [], ◌∷◌, ◌++◌, map as list_map, filter, slice_get, slice_set, Option, Some, None, option_map, is_some, if◌then◌else◌, Result, Ok, Err}
+-- Editors that work, save, send and crash, one event after another (crash recovery from stable
+-- storage: Cachin, Guerraoui and Rodrigues, Introduction to Reliable and Secure Distributed
+-- Programming, 2011, section 2.2; which events there are: profile).
+use Rattle.std.specs.Prelude.{ℕ, Bool, not, List, [], ◌∷◌, ◌++◌, map as list_map, filter, slice_get}
+use Rattle.std.specs.Prelude.{slice_set, Option, Some, None, option_map, is_some, if◌then◌else◌}
+use Rattle.std.specs.Prelude.{Result, Ok, Err}
 use Rattle.std.specs.List.{list_any}
 use Rattle.std.specs.FinMap as map
 use Rattle.std.specs.Ordering.{is_eq}
@@ -36,14 +39,16 @@ pub data Event : Type 0 where
 
 -- the operation that an edit makes joins what was taken; a refused edit changes nothing
 abbrev pub with_made : Peer → Result Op EditorFault → Peer
-with_made peer (Ok o) = record { name = peer.name; taken = with_op peer.taken o; saved = peer.saved }
+with_made peer (Ok o) = record { name = peer.name; taken = with_op peer.taken o; saved = peer.saved
+    }
 with_made peer (Err fault) = peer
 
 -- An edit makes what it makes of the set taken.
 abbrev pub edited : Peer → Edit → Peer
 edited peer edit = with_made peer (made (operations peer.taken) peer.name edit)
 
--- An operation joins a set. Where one stands under its dot the set stays: it is the same one (`NoTakeConflicts`).
+-- An operation joins a set. Where one stands under its dot the set stays: it is the same one
+-- (`NoTakeConflicts`).
 abbrev pub joined : LogMap → Op → LogMap
 joined set o = if is_some (map.get set (op_dot o)) then set else with_op set o
 
@@ -75,18 +80,24 @@ where_there world (Some peer) change = change peer
 
 -- the world with another state of one editor
 abbrev pub with_peer : World → ℕ → Peer → World
-with_peer world editor peer = record { peers = slice_set world.peers editor peer; sent = world.sent }
+with_peer world editor peer = record { peers = slice_set world.peers editor peer; sent = world.sent
+    }
 
 -- the world with one editor's state saved, and with what it had not sent sent
 abbrev pub with_saved : World → ℕ → Peer → World
-with_saved world editor peer = record { peers = slice_set world.peers editor (saving peer); sent = world.sent ++ unsent world.sent peer.taken }
+with_saved world editor peer = record { peers = slice_set world.peers editor (saving peer); sent =
+    world.sent ++ unsent world.sent peer.taken }
 
 -- One event.
 abbrev pub step : World → Event → World
-step world (Edits editor edit) = where_there world (slice_get world.peers editor) (λ peer. with_peer world editor (edited peer edit))
-step world (Saves editor) = where_there world (slice_get world.peers editor) (λ peer. with_saved world editor peer)
-step world (Takes editor sent) = where_there world (slice_get world.peers editor) (λ peer. with_peer world editor (taking peer (slice_get world.sent sent)))
-step world (Restarts editor) = where_there world (slice_get world.peers editor) (λ peer. with_peer world editor (restarted peer))
+step world (Edits editor edit) = where_there world (slice_get world.peers editor)
+    (λ peer. with_peer world editor (edited peer edit))
+step world (Saves editor) = where_there world (slice_get world.peers editor)
+    (λ peer. with_saved world editor peer)
+step world (Takes editor sent) = where_there world (slice_get world.peers editor)
+    (λ peer. with_peer world editor (taking peer (slice_get world.sent sent)))
+step world (Restarts editor) = where_there world (slice_get world.peers editor)
+    (λ peer. with_peer world editor (restarted peer))
 
 -- one event after another
 abbrev pub after : World → List Event → World

@@ -8,7 +8,8 @@ ghost use Rattle.mt_opcodec.specs.Sets.{Has, IsSet};
 ghost use Rattle.mt_opcodec.specs.Union.{union};
 ghost use Rattle.mt_replica.specs.Changes.{edit_of};
 ghost use Rattle.mt_replica.specs.EditorValue.{with_op};
-ghost use Rattle.sync_world.specs.World.{new_peer, edited, taking, saving, restarted, is_sent, unsent};
+ghost use Rattle.sync_world.specs.World.{new_peer, edited, taking, saving, restarted, is_sent};
+ghost use Rattle.sync_world.specs.World.{unsent};
 ghost use Rattle.sync_world.specs.Seats.{peer_of, IsWhole};
 
 use crate::sent::{Sent, copy_of};
@@ -38,7 +39,8 @@ impl<A: Allocator + Clone> Peer<A> {
 
     // An editor of this name that has taken and saved a log's operations.
     fn of_saved(alloc: &A, name: Replica, saved: Log<A>) -> Result<Self, AllocError>
-        ensures ok { IfOk result (λ seat. peer_of seat ≡ record { name = name; taken = saved; saved = saved }) }
+        ensures ok { IfOk result (λ seat. peer_of seat ≡ record
+            { name = name; taken = saved; saved = saved }) }
         ensures whole { IfOk result IsWhole }
     {
         let Ok(taken) = saved.try_clone() else {
@@ -71,7 +73,8 @@ impl<A: Allocator + Clone> Peer<A> {
     /// It makes an edit. One that is refused changes nothing.
     pub fn edit(&mut self, change: &Change<A>) -> Result<(), AllocError>
         requires whole { IsWhole self.old }
-        ensures ok { OnOk result (peer_of self.new ≡ edited (peer_of self.old) (edit_of change.now)) }
+        ensures ok { OnOk result (peer_of self.new ≡ edited (peer_of self.old) (edit_of change.now))
+            }
         ensures whole { OnOk result (IsWhole self.new) }
     {
         holds_a_set(&self.editor);
@@ -102,7 +105,8 @@ impl<A: Allocator + Clone> Peer<A> {
     /// It takes the sent operation of this number, if there is one.
     pub fn take_sent(&mut self, sent: &[Op<A>], number: usize) -> Result<(), AllocError>
         requires whole { IsWhole self.old }
-        ensures ok { OnOk result (peer_of self.new ≡ taking (peer_of self.old) (slice_get sent.now number)) }
+        ensures ok { OnOk result (peer_of self.new ≡ taking (peer_of self.old)
+            (slice_get sent.now number)) }
         ensures whole { OnOk result (IsWhole self.new) }
     {
         match sent.get(number) {
@@ -111,7 +115,8 @@ impl<A: Allocator + Clone> Peer<A> {
         }
     }
 
-    /// What was sent, and what it has taken and was not sent, by rising dot. What it has saved was sent.
+    /// What was sent, and what it has taken and was not sent, by rising dot. What it has saved was
+    /// sent.
     pub fn send(&self, alloc: &A, sent: Sent<A>) -> Result<Sent<A>, AllocError>
         requires whole { IsWhole self.now }
         requires saved { (o : Op) → Has self.now.saved o → is_sent sent o ≡ true }

@@ -9,7 +9,8 @@ use mt_opcodec::{Log, LogFault};
 use std::alloc::{AllocError, Allocator, Global};
 use std::marker::Model;
 
-/// The operations that were sent, in the order in which they were, with a log that finds them by their dots. Seen as their list.
+/// The operations that were sent, in the order in which they were, with a log that finds them by
+/// their dots. Seen as their list.
 #[derive(Drop)]
 pub(crate) struct Sent<A: Allocator = Global> {
     ops: Vec<Op<A>, A>,

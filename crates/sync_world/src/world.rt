@@ -3,7 +3,8 @@
 ghost use Rattle.std.specs.Prelude.{◌≡◌, Some, IfOk, map as list_map, option_map};
 ghost use Rattle.std.specs.Option.{option_copied};
 ghost use Rattle.mt_replica.specs.Changes.{edit_of};
-ghost use Rattle.sync_world.specs.World.{Edits, Saves, Takes, Restarts, step, start, world_of, name_at, taken_at};
+ghost use Rattle.sync_world.specs.World.{Edits, Saves, Takes, Restarts, step, start, world_of};
+ghost use Rattle.sync_world.specs.World.{name_at, taken_at};
 ghost use Rattle.sync_world.specs.Names.{RunGives};
 ghost use Rattle.sync_world.specs.Events.{event_value};
 
@@ -18,7 +19,8 @@ use mt_stamp::Replica;
 use std::alloc::{AllocError, Allocator, Global};
 use std::marker::Model;
 
-/// Editors, what each of them has saved, and what they have sent, after some events. No editor of a world has failed.
+/// Editors, what each of them has saved, and what they have sent, after some events. No editor of a
+/// world has failed.
 #[derive(Drop)]
 pub struct World<A: Allocator = Global> {
     alloc: A,
@@ -41,10 +43,13 @@ impl<A: Allocator> Model for World<A> {
 }
 
 impl<A: Allocator> World<A> {
-    /// An editor, counted from 0, or `None` where there are no more. Its log is what it has taken, and its session that of its log.
+    /// An editor, counted from 0, or `None` where there are no more. Its log is what it has taken,
+    /// and its session that of its log.
     pub fn editor(&self, index: usize) -> Option<&Editor<A>>
-        ensures name { option_map (λ editor. editor.name) (option_copied result) ≡ name_at self.now index }
-        ensures log { option_map (λ editor. editor.log) (option_copied result) ≡ option_map Some (taken_at self.now index) }
+        ensures name { option_map (λ editor. editor.name) (option_copied result)
+            ≡ name_at self.now index }
+        ensures log { option_map (λ editor. editor.log) (option_copied result)
+            ≡ option_map Some (taken_at self.now index) }
     {
         match self.seats.get(index) {
             Some(seat) => Some(&seat.editor),
@@ -63,8 +68,9 @@ impl<A: Allocator> World<A> {
 }
 
 impl<A: Allocator + Clone> World<A> {
-    /// The world of editors of these names after these events, one after another. Refused as `SameName` (48) with the least index whose name
-    /// stands before it, and as `Memory` (0) where an allocation failed: then there is no world.
+    /// The world of editors of these names after these events, one after another. Refused as
+    /// `SameName` (48) with the least index whose name stands before it, and as `Memory` (0) where
+    /// an allocation failed: then there is no world.
     pub fn run(alloc: A, names: &[Replica], events: &[Event<A>]) -> Result<Self, WorldFault>
         ensures { RunGives names.now (list_map event_value events.now) result }
     {
@@ -76,7 +82,8 @@ impl<A: Allocator + Clone> World<A> {
 
     // The world of editors of these names after these events.
     fn after(alloc: A, names: &[Replica], events: &[Event<A>]) -> Result<Self, AllocError>
-        ensures ok { IfOk result (λ world. world ≡ world_of names.now (list_map event_value events.now)) }
+        ensures ok { IfOk result (λ world. world ≡ world_of names.now
+            (list_map event_value events.now)) }
     {
         let mut world = World::start(alloc, names)?;
         for event in events {

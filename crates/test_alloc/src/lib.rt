@@ -1,7 +1,7 @@
 //! An allocator for tests: it refuses one chosen allocation and passes every other one on.
 //!
-//! A test that gives `&Refusing` to the code under test, with `at` = 0, 1, 2 and so on, makes each allocation of that
-//! code fail once. The run that meets no refusal ends the loop.
+//! A test that gives `&Refusing` to the code under test, with `at` = 0, 1, 2 and so on, makes each
+//! allocation of that code fail once. The run that meets no refusal ends the loop.
 //!
 //! ```rust
 //! use test_alloc::Refusing;
@@ -29,9 +29,9 @@
 //! }
 //! ```
 //!
-//! What is proved of it is that it is an allocator: a block that it hands out is its user's until it is given back. Which
-//! call it refuses, and what it counts, stands in cells, and no clause can name what a cell holds: that behaviour is shown
-//! by the tests alone.
+//! What is proved of it is that it is an allocator: a block that it hands out is its user's until
+//! it is given back. Which call it refuses, and what it counts, stands in cells, and no clause can
+//! name what a cell holds: that behaviour is shown by the tests alone.
 #![tactic(auto)]
 
 use std::alloc::{AllocError, Allocator};
@@ -42,7 +42,8 @@ use tally::Tally;
 
 /// Passes every call on to `inner`, except for one allocation, which it answers with `AllocError`.
 ///
-/// `&Refusing` is an `Allocator` that can be copied, so that several collections can share one count.
+/// `&Refusing` is an `Allocator` that can be copied, so that several collections can share one
+/// count.
 #[derive(Drop)]
 pub struct Refusing<B: Allocator> {
     inner: B,
@@ -63,8 +64,8 @@ impl<B: Allocator> Refusing<B> {
         self.tally.has_refused()
     }
 
-    /// How many allocations were asked for, the refused one among them. A block that grows by the trait's own `grow` asks
-    /// for one.
+    /// How many allocations were asked for, the refused one among them. A block that grows by the
+    /// trait's own `grow` asks for one.
     pub fn allocations(&self) -> u64 {
         self.tally.asked()
     }

@@ -1,5 +1,5 @@
-//! What the tests of several crates share: memory that refuses a chosen growth, readers and writers that fail where a
-//! test says, and builders of operations and logs.
+//! What the tests of several crates share: memory that refuses a chosen growth, readers and writers
+//! that fail where a test says, and builders of operations and logs.
 //!
 //! ```rust
 //! use mt_opcodec::{Latch, Log, LogFault};

@@ -1,5 +1,6 @@
 -- Which clips of a track are covered: others lie over them all the time (profile).
-use Rattle.std.specs.Prelude.{ℕ, zero, suc, Bool, false, not, ◌&&◌, List, [], ◌∷◌, Option, Some, None}
+use Rattle.std.specs.Prelude.{ℕ, zero, suc, Bool, false, not, ◌&&◌, List, [], ◌∷◌, Option, Some}
+use Rattle.std.specs.Prelude.{None}
 use Rattle.std.specs.List.{list_any}
 use Rattle.mt_stamp.specs.StampOrder.{stamp_eq}
 use Rattle.mt_sessionview.specs.SessionValue.{Clip}

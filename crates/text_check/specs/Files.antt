@@ -1,5 +1,6 @@
 -- Files that are given as recordings, and what each of them is (profile).
-use Rattle.std.specs.Prelude.{ℕ, Bool, List, [], ◌∷◌, Option, Some, None, Result, Ok, Err, if◌then◌else◌}
+use Rattle.std.specs.Prelude.{ℕ, Bool, List, [], ◌∷◌, Option, Some, None, Result, Ok, Err}
+use Rattle.std.specs.Prelude.{if◌then◌else◌}
 use Rattle.std.specs.Ordering.{is_eq}
 use Rattle.sha2.specs.Sha256.{sha256}
 use Rattle.mt_op.specs.declared.digest.Digest.{Digest}
@@ -15,7 +16,8 @@ pub record GivenFile : Type 0 where
 
 -- what these bytes are
 abbrev pub recording_of : List ℕ → Option WaveFault → Result Recording WaveFault
-recording_of bytes None = Ok (record { digest = record { 0 = sha256 bytes }; rate = rate_of bytes; channels = channels_of bytes; frames = frames_of bytes })
+recording_of bytes None = Ok (record { digest = record { 0 = sha256 bytes }; rate = rate_of bytes;
+    channels = channels_of bytes; frames = frames_of bytes })
 recording_of bytes (Some fault) = Err fault
 
 -- a file of this name and these bytes
@@ -32,8 +34,10 @@ abbrev pub is_same : Digest → Digest → Bool
 is_same d e = is_eq (digest_cmp d e)
 
 -- a file, where it is the recording of this digest, and else what stands behind it
-abbrev pub found_or : Digest → List ℕ → Result Recording WaveFault → Option FoundFile → Option FoundFile
-found_or d name (Ok r) behind = if is_same r.digest d then Some (record { name = name; recording = r }) else behind
+abbrev pub found_or : Digest → List ℕ → Result Recording WaveFault → Option FoundFile
+    → Option FoundFile
+found_or d name (Ok r) behind = if is_same r.digest d then Some
+    (record { name = name; recording = r }) else behind
 found_or d name (Err fault) behind = behind
 
 -- the first of these files that is the recording of this digest

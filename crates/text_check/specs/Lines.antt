@@ -1,5 +1,6 @@
 -- A text of lines as it grows, and what is noted for it: no definition of the subject.
-use Rattle.std.specs.Prelude.{◌≡◌, ℕ, ◌+◌, ◌<◌, ◌==◌, Bool, false, List, [], ◌∷◌, ◌++◌, length, slice_index_or}
+use Rattle.std.specs.Prelude.{◌≡◌, ℕ, ◌+◌, ◌<◌, ◌==◌, Bool, false, List, [], ◌∷◌, ◌++◌, length}
+use Rattle.std.specs.Prelude.{slice_index_or}
 use Rattle.std.specs.List.{list_any}
 use Rattle.mt_sessionview.specs.SessionValue.{Clip}
 use Rattle.mt_overlap.specs.declared.span.Segment.{Segment}
@@ -29,4 +30,5 @@ is_named segments i = list_any (λ (s : Segment). s.which == i) segments
 -- of each clip of a track that is not muted, whether it is on top at one of its frames
 pub record AreTops (clips : List Clip) (marks : List Bool) : Type 0 where
   pub count : length marks ≡ length clips
-  pub each : (i : ℕ) → i < length clips → (clip_at clips i).mute ≡ false → mark_at marks i ≡ is_on_top clips (clip_at clips i)
+  pub each : (i : ℕ) → i < length clips → (clip_at clips i).mute ≡ false → mark_at marks i
+      ≡ is_on_top clips (clip_at clips i)

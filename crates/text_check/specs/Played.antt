@@ -24,17 +24,20 @@ named tracks = named_by (all_clips tracks)
 abbrev pub playing : Digest → List Clip → List Clip
 playing d clips = filter (λ c. is_same c.source d) clips
 
--- the first frame of their recording behind all that these clips play: the greatest offset and length together
+-- the first frame of their recording behind all that these clips play: the greatest offset and
+-- length together
 abbrev pub end_of : List Clip → ℕ
 end_of [] = 0
 end_of (c ∷ cs) = max (c.offset + c.len) (end_of cs)
 
 -- what is made of a recording by these clips, of which those are audible
 abbrev pub use_by : List Clip → List Clip → Digest → Use
-use_by clips heard d = record { clips = length (playing d clips); audible = length (playing d heard); end = end_of (playing d clips) }
+use_by clips heard d = record { clips = length (playing d clips); audible = length
+    (playing d heard); end = end_of (playing d clips) }
 
--- How many clips of a session play a recording, how many of them are audible, as a mix has it (not muted, on a track that is not, though
--- others may lie over them), and how far into the recording they go.
+-- How many clips of a session play a recording, how many of them are audible, as a mix has it (not
+-- muted, on a track that is not, though others may lie over them), and how far into the recording
+-- they go.
 abbrev pub use_of : List Track → Digest → Use
 use_of tracks d = use_by (all_clips tracks) (audible tracks) d
 

@@ -1,6 +1,8 @@
--- What is written of the recordings of a session, and of the files that are given for them (profile): a line for each digest that a clip
--- names, then one for each file that no clip plays or that is no wave file, and one for how many recordings are missing.
-use Rattle.std.specs.Prelude.{ℕ, ◌==◌, List, [], ◌∷◌, ◌++◌, filter, length, codes, Option, Some, None, Result, Ok, Err, if◌then◌else◌}
+-- What is written of the recordings of a session, and of the files that are given for them
+-- (profile): a line for each digest that a clip names, then one for each file that no clip plays or
+-- that is no wave file, and one for how many recordings are missing.
+use Rattle.std.specs.Prelude.{ℕ, ◌==◌, List, [], ◌∷◌, ◌++◌, filter, length, codes, Option, Some}
+use Rattle.std.specs.Prelude.{None, Result, Ok, Err, if◌then◌else◌}
 use Rattle.std.specs.Option.{is_none}
 use Rattle.std.specs.Fmt.{decimal}
 use Rattle.std.specs.List.{flat_map}
@@ -23,23 +25,29 @@ use Rattle.text_check.specs.Played.{named, use_of}
 abbrev pub found_text : Option FoundFile → List ℕ
 found_text None = codes " missing"
 found_text (Some f) =
-    codes " rate " ++ (decimal f.recording.rate ++ (codes " channels " ++ (decimal f.recording.channels ++ (codes " frames " ++ (decimal f.recording.frames ++ (codes " file " ++ f.name))))))
+    codes " rate " ++ (decimal f.recording.rate ++ (codes " channels "
+        ++ (decimal f.recording.channels ++ (codes " frames "
+        ++ (decimal f.recording.frames ++ (codes " file " ++ f.name))))))
 
 -- `source DIGEST clips N audible N end N`, and what was found
 abbrev pub source_line : Digest → Use → Option FoundFile → List ℕ
 source_line d u f =
-    codes "source " ++ (digest_text d ++ (codes " clips " ++ (decimal u.clips ++ (codes " audible " ++ (decimal u.audible ++ (codes " end " ++ (decimal u.end ++ (found_text f ++ newline ∷ []))))))))
+    codes "source " ++ (digest_text d ++ (codes " clips "
+        ++ (decimal u.clips ++ (codes " audible " ++ (decimal u.audible
+        ++ (codes " end " ++ (decimal u.end ++ (found_text f ++ newline ∷ []))))))))
 
 -- ---- the line of a file
 
 -- `unused DIGEST file NAME`, where no clip plays the recording
 abbrev pub unused_line : Digest → Use → List ℕ → List ℕ
-unused_line d u name = if u.clips == 0 then codes "unused " ++ (digest_text d ++ (codes " file " ++ (name ++ newline ∷ []))) else []
+unused_line d u name = if u.clips == 0 then codes "unused "
+    ++ (digest_text d ++ (codes " file " ++ (name ++ newline ∷ []))) else []
 
 -- `refused N file NAME`, with the number of what is wrong with the file, where it is no wave file
 abbrev pub other_line : (Digest → Use) → List ℕ → Result Recording WaveFault → List ℕ
 other_line uses name (Ok r) = unused_line r.digest (uses r.digest) name
-other_line uses name (Err fault) = codes "refused " ++ (decimal (number_of fault) ++ (codes " file " ++ (name ++ newline ∷ [])))
+other_line uses name (Err fault) = codes "refused "
+    ++ (decimal (number_of fault) ++ (codes " file " ++ (name ++ newline ∷ [])))
 
 -- ---- what is missing
 
@@ -57,7 +65,8 @@ missing_line count = codes "missing " ++ (decimal count ++ newline ∷ [])
 abbrev pub sources_text : List Track → List GivenFile → List ℕ
 sources_text tracks files =
     flat_map (λ d. source_line d (use_of tracks d) (first_of files d)) (named tracks)
-    ++ (flat_map (λ f. other_line (use_of tracks) f.name f.recording) files ++ missing_line (length (missing tracks files)))
+    ++ (flat_map (λ f. other_line (use_of tracks) f.name f.recording) files
+        ++ missing_line (length (missing tracks files)))
 
 -- the digests that are missing, alone
 abbrev pub missing_text : List Track → List GivenFile → List ℕ

@@ -1,5 +1,6 @@
 -- What the maps hold that the lines are made of: no definition of the subject.
-use Rattle.std.specs.Prelude.{◌≡◌, ℕ, ◌==◌, Bool, not, List, [], slice_index_or, Option, Some, None, unwrap_or, Result, Ok, Err}
+use Rattle.std.specs.Prelude.{◌≡◌, ℕ, ◌==◌, Bool, not, List, [], slice_index_or, Option, Some, None}
+use Rattle.std.specs.Prelude.{unwrap_or, Result, Ok, Err}
 use Rattle.std.specs.BTreeMap.{BTreeMap, get}
 use Rattle.mt_op.specs.declared.digest.Digest.{Digest}
 use Rattle.mt_bwfread.specs.declared.fault.WaveFault.{WaveFault}
@@ -36,7 +37,8 @@ abbrev pub AreFirst : List GivenFile → BTreeMap Digest FoundFile → Type 0
 AreFirst files firsts = (d : Digest) → get digest_cmp firsts d ≡ first_of files d
 
 -- what is noted of the recordings that these tracks play, and of these files
-pub record IsNoted (tracks : List Track) (files : List GivenFile) (digests : List Digest) (uses : BTreeMap Digest Use) (firsts : BTreeMap Digest FoundFile) : Type 0 where
+pub record IsNoted (tracks : List Track) (files : List GivenFile) (digests : List Digest)
+    (uses : BTreeMap Digest Use) (firsts : BTreeMap Digest FoundFile) : Type 0 where
   pub named : digests ≡ named tracks
   pub made : AreUses (all_clips tracks) (audible tracks) uses
   pub first : AreFirst files firsts

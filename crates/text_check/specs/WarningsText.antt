@@ -1,6 +1,7 @@
--- What is written of what sounds otherwise than one may think (profile): a line for each such thing, kind by kind, and one for how many lines
--- stand before it.
-use Rattle.std.specs.Prelude.{ℕ, ◌+◌, Bool, not, nat_lt, List, [], ◌∷◌, ◌++◌, length, codes, Option, Some, None, if◌then◌else◌}
+-- What is written of what sounds otherwise than one may think (profile): a line for each such
+-- thing, kind by kind, and one for how many lines stand before it.
+use Rattle.std.specs.Prelude.{ℕ, ◌+◌, Bool, not, nat_lt, List, [], ◌∷◌, ◌++◌, length, codes, Option}
+use Rattle.std.specs.Prelude.{Some, None, if◌then◌else◌}
 use Rattle.std.specs.Fmt.{decimal}
 use Rattle.std.specs.List.{flat_map}
 use Rattle.mt_stamp.specs.StampOrder.{Stamp}
@@ -31,13 +32,16 @@ line_where there line = if there then line ∷ [] else []
 
 -- `past-end CLIP end N frames N`
 abbrev pub past_end_line : Stamp → ℕ → ℕ → List ℕ
-past_end_line clip end frames = codes "past-end " ++ (stamp_text clip ++ (codes " end " ++ (decimal end ++ (codes " frames " ++ (decimal frames ++ newline ∷ [])))))
+past_end_line clip end frames = codes "past-end " ++
+    (stamp_text clip ++ (codes " end " ++ (decimal end
+    ++ (codes " frames " ++ (decimal frames ++ newline ∷ [])))))
 
--- A clip whose offset and length together are more than its recording's frames: the rest of it is silence. Of a recording that is not there
--- nobody knows.
+-- A clip whose offset and length together are more than its recording's frames: the rest of it is
+-- silence. Of a recording that is not there nobody knows.
 abbrev pub past_end : Clip → Option (List ℕ) → List (List ℕ)
 past_end c None = []
-past_end c (Some text) = line_where (nat_lt (frames_of text) (c.offset + c.len)) (past_end_line c.clip (c.offset + c.len) (frames_of text))
+past_end c (Some text) = line_where (nat_lt (frames_of text) (c.offset + c.len))
+    (past_end_line c.clip (c.offset + c.len) (frames_of text))
 
 abbrev pub past_end_lines : Sources → List Clip → List (List ℕ)
 past_end_lines sources clips = flat_map (λ c. past_end c (found sources c.source)) clips
@@ -63,23 +67,29 @@ covered_lines tracks = flat_map covered_on tracks
 
 -- `one-channel DIGEST channels N`
 abbrev pub one_channel_line : Digest → ℕ → List ℕ
-one_channel_line d channels = codes "one-channel " ++ (digest_text d ++ (codes " channels " ++ (decimal channels ++ newline ∷ [])))
+one_channel_line d channels = codes "one-channel "
+    ++ (digest_text d ++ (codes " channels " ++ (decimal channels ++ newline ∷ [])))
 
--- A recording of more channels than are put out: an output of so many plays as many of a recording's, from its first on, and none behind them.
+-- A recording of more channels than are put out: an output of so many plays as many of a
+-- recording's, from its first on, and none behind them.
 abbrev pub one_channel : ℕ → Digest → Option (List ℕ) → List (List ℕ)
 one_channel channels d None = []
-one_channel channels d (Some text) = line_where (nat_lt channels (channels_of text)) (one_channel_line d (channels_of text))
+one_channel channels d (Some text) = line_where (nat_lt channels (channels_of text))
+    (one_channel_line d (channels_of text))
 
 abbrev pub one_channel_lines : Sources → ℕ → List Digest → List (List ℕ)
-one_channel_lines sources channels digests = flat_map (λ d. one_channel channels d (found sources d)) digests
+one_channel_lines sources channels digests = flat_map
+    (λ d. one_channel channels d (found sources d)) digests
 
 -- ---- markers that a file does not have
 
 -- `behind MARKER at N`
 abbrev pub behind_line : Stamp → ℕ → List ℕ
-behind_line marker at = codes "behind " ++ (stamp_text marker ++ (codes " at " ++ (decimal at ++ newline ∷ [])))
+behind_line marker at = codes "behind " ++ (stamp_text marker
+    ++ (codes " at " ++ (decimal at ++ newline ∷ [])))
 
--- A marker that stands at the programme's end or behind it: only those before it are written into a file.
+-- A marker that stands at the programme's end or behind it: only those before it are written into a
+-- file.
 abbrev pub behind : ℕ → Marker → List (List ℕ)
 behind end m = line_where (not (nat_lt m.at end)) (behind_line m.marker m.at)
 
@@ -90,7 +100,8 @@ behind_lines end markers = flat_map (behind end) markers
 
 -- `held STAMP needs STAMP`
 abbrev pub needs_line : Stamp → Stamp → List ℕ
-needs_line stamp need = codes "held " ++ (stamp_text stamp ++ (codes " needs " ++ (stamp_text need ++ newline ∷ [])))
+needs_line stamp need = codes "held " ++ (stamp_text stamp
+    ++ (codes " needs " ++ (stamp_text need ++ newline ∷ [])))
 
 -- the first of these needs that none of these operations meets
 abbrev pub first_unmet : List Op → List Need → Option Need
@@ -111,8 +122,9 @@ held_lines s = flat_map (held_of (ready_ops s)) (sort_by op_cmp (held_ops s))
 
 -- ---- the text
 
--- The lines of a programme, of markers and of operations: clips in the order of the tracks and of the clips on them, recordings by rising digest, each
--- once, markers in their order, and operations by rising stamp.
+-- The lines of a programme, of markers and of operations: clips in the order of the tracks and of
+-- the clips on them, recordings by rising digest, each once, markers in their order, and operations
+-- by rising stamp.
 unfoldable pub warning_lines : Programme → List Marker → List Op → List (List ℕ)
 warning_lines p markers s =
     past_end_lines p.sources (audible p.tracks)
@@ -126,4 +138,5 @@ abbrev pub warnings_line : ℕ → List ℕ
 warnings_line count = codes "warnings " ++ (decimal count ++ newline ∷ [])
 
 abbrev pub warnings_text : Programme → List Marker → List Op → List ℕ
-warnings_text p markers s = flat_map (λ line. line) (warning_lines p markers s) ++ warnings_line (length (warning_lines p markers s))
+warnings_text p markers s = flat_map (λ line. line) (warning_lines p markers s)
+    ++ warnings_line (length (warning_lines p markers s))

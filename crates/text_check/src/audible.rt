@@ -12,20 +12,22 @@ use mt_sessionview::Session;
 use std::alloc::{AllocError, Allocator, Global};
 use std::collections::BTreeMap;
 
-/// Which recordings the audible clips of a session play, those that are not muted on tracks that are not. Of recordings these alone count for a mix, for
-/// its file and for its warnings (the laws `same_recordings`), so that the others can be let go.
+/// Which recordings the audible clips of a session play, those that are not muted on tracks that
+/// are not. Of recordings these alone count for a mix, for its file and for its warnings (the laws
+/// `same_recordings`), so that the others can be let go.
 #[derive(Drop)]
 pub struct Audible<A: Allocator = Global> {
     uses: BTreeMap<Digest, Use, A>,
 }
 
 impl<A: Allocator> Audible<A> {
-    /// Those of a session, in a time of n log n for n clips. It keeps a line for each recording, and a reference to each clip until it is made. Refused
-    /// only where an allocation failed.
+    /// Those of a session, in a time of n log n for n clips. It keeps a line for each recording,
+    /// and a reference to each clip until it is made. Refused only where an allocation failed.
     pub fn of<B: Allocator>(alloc: A, session: &Session<B>) -> Result<Audible<A>, AllocError>
     where
         A: Clone,
-        ensures { IfOk result (λ a. (d : DigestOf) → plays a.uses d ≡ is_audible session.now.tracks d) }
+        ensures { IfOk result (λ a. (d : DigestOf) → plays a.uses d
+            ≡ is_audible session.now.tracks d) }
     {
         let clips = audible_clips(alloc.clone()?, session.tracks.items())?;
         let uses = uses_by(alloc, &[], &clips)?;

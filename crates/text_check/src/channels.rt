@@ -3,7 +3,8 @@
 ghost use Rattle.std.specs.Prelude.{◌≡◌, nat_lt, OnOk};
 ghost use Rattle.mt_render.specs.Sources.{found};
 ghost use Rattle.text_check.specs.Lines.{with_lines};
-ghost use Rattle.text_check.specs.WarningsText.{line_where, one_channel_line, one_channel, one_channel_lines};
+ghost use Rattle.text_check.specs.WarningsText.{line_where, one_channel_line, one_channel};
+ghost use Rattle.text_check.specs.WarningsText.{one_channel_lines};
 
 use crate::lines::Lines;
 use crate::uses::digest_at;
@@ -27,7 +28,8 @@ fn append_one_channel<A: Allocator, B: Allocator>(
     digest: Digest,
     channels: u16,
 ) -> Result<(), AllocError>
-    ensures { OnOk result (lines.new ≡ with_lines lines.old (line_where (nat_lt heard channels) (one_channel_line digest channels))) }
+    ensures { OnOk result (lines.new ≡ with_lines lines.old
+        (line_where (nat_lt heard channels) (one_channel_line digest channels))) }
 {
     if !has_more(heard, channels) {
         return Ok(());
@@ -36,7 +38,8 @@ fn append_one_channel<A: Allocator, B: Allocator>(
     lines.count_one()
 }
 
-// Writes the line of the recording of a digest, where that is there and has more channels than are put out.
+// Writes the line of the recording of a digest, where that is there and has more channels than are
+// put out.
 fn append_one_channel_of<A: Allocator, B: Allocator, C: Allocator>(
     alloc: &A,
     lines: &mut Lines<B>,
@@ -44,7 +47,8 @@ fn append_one_channel_of<A: Allocator, B: Allocator, C: Allocator>(
     heard: u16,
     digest: Digest,
 ) -> Result<(), AllocError>
-    ensures { OnOk result (lines.new ≡ with_lines lines.old (one_channel heard digest (found catalogue.now digest))) }
+    ensures { OnOk result (lines.new ≡ with_lines lines.old
+        (one_channel heard digest (found catalogue.now digest))) }
 {
     match catalogue.find(&digest) {
         Some(wave) => append_one_channel(alloc, lines, heard, digest, wave.channels()),
@@ -60,7 +64,8 @@ pub(crate) fn append_one_channels<A: Allocator, B: Allocator, C: Allocator>(
     heard: u16,
     digests: &[Digest],
 ) -> Result<(), AllocError>
-    ensures { OnOk result (lines.new ≡ with_lines lines.old (one_channel_lines catalogue.now heard digests.now)) }
+    ensures { OnOk result (lines.new ≡ with_lines lines.old
+        (one_channel_lines catalogue.now heard digests.now)) }
 {
     for index in 0..digests.len() {
         append_one_channel_of(alloc, lines, catalogue, heard, digest_at(digests, index))?;

@@ -12,7 +12,8 @@ fn push_all<'a, A: Allocator>(
     clips: &'a [ClipView],
     all: &mut Vec<&'a ClipView, A>,
 ) -> Result<(), AllocError>
-    ensures { OnOk result (map (λ c. c.now) all.new.items ≡ map (λ c. c.now) all.old.items ++ clips.now) }
+    ensures { OnOk result (map (λ c. c.now) all.new.items ≡ map (λ c. c.now) all.old.items
+        ++ clips.now) }
 {
     for clip in clips {
         all.push(clip)?;
@@ -25,7 +26,8 @@ fn push_unless_muted<'a, A: Allocator>(
     clip: &'a ClipView,
     all: &mut Vec<&'a ClipView, A>,
 ) -> Result<(), AllocError>
-    ensures { OnOk result (map (λ c. c.now) all.new.items ≡ map (λ c. c.now) all.old.items ++ (if clip.now.mute then [] else (clip.now ∷ []))) }
+    ensures { OnOk result (map (λ c. c.now) all.new.items ≡ map (λ c. c.now) all.old.items
+        ++ (if clip.now.mute then [] else (clip.now ∷ []))) }
 {
     if clip.mute {
         return Ok(());
@@ -39,7 +41,8 @@ fn push_unmuted<'a, A: Allocator>(
     clips: &'a [ClipView],
     all: &mut Vec<&'a ClipView, A>,
 ) -> Result<(), AllocError>
-    ensures { OnOk result (map (λ c. c.now) all.new.items ≡ map (λ c. c.now) all.old.items ++ unmuted clips.now) }
+    ensures { OnOk result (map (λ c. c.now) all.new.items ≡ map (λ c. c.now) all.old.items
+        ++ unmuted clips.now) }
 {
     for clip in clips {
         push_unless_muted(clip, all)?;

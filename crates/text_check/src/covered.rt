@@ -2,7 +2,8 @@
 
 ghost use Rattle.std.specs.Prelude.{◌≡◌, not, ◌&&◌, OnOk};
 ghost use Rattle.text_check.specs.Lines.{with_lines, AreTops};
-ghost use Rattle.text_check.specs.WarningsText.{line_where, covered_line, covered_among, covered_on, covered_lines};
+ghost use Rattle.text_check.specs.WarningsText.{line_where, covered_line, covered_among};
+ghost use Rattle.text_check.specs.WarningsText.{covered_on, covered_lines};
 
 use crate::lines::Lines;
 use crate::tops::{clip_at, tops_of};
@@ -16,7 +17,8 @@ fn append_covered<A: Allocator>(
     clip: &ClipView,
     top: bool,
 ) -> Result<(), AllocError>
-    ensures { OnOk result (lines.new ≡ with_lines lines.old (line_where (not clip.now.mute && not top) (covered_line clip.now.clip))) }
+    ensures { OnOk result (lines.new ≡ with_lines lines.old
+        (line_where (not clip.now.mute && not top) (covered_line clip.now.clip))) }
 {
     if clip.mute || top {
         return Ok(());

@@ -44,8 +44,11 @@ fn keep_first<'a, A: Allocator + Clone>(
     name: &'a str,
     recording: Recording,
 ) -> Result<(), AllocError>
-    ensures here { OnOk result (get digest_cmp firsts.new recording.digest ≡ Some (unwrap_or (get digest_cmp firsts.old recording.digest) (record { name = name.now; recording = recording }))) }
-    ensures others { OnOk result ((d : DigestOf) → is_same recording.digest d ≡ false → get digest_cmp firsts.new d ≡ get digest_cmp firsts.old d) }
+    ensures here { OnOk result (get digest_cmp firsts.new recording.digest
+        ≡ Some (unwrap_or (get digest_cmp firsts.old recording.digest)
+        (record { name = name.now; recording = recording }))) }
+    ensures others { OnOk result ((d : DigestOf) → is_same recording.digest d ≡ false
+        → get digest_cmp firsts.new d ≡ get digest_cmp firsts.old d) }
 {
     if !firsts.contains_key(&recording.digest) {
         firsts.insert(recording.digest, Found { name, recording })?;

@@ -21,7 +21,8 @@ pub struct Recording {
     pub frames: u64,
 }
 
-/// A file that is given as a recording: its name, and the recording that it is, or why it is no wave file.
+/// A file that is given as a recording: its name, and the recording that it is, or why it is no
+/// wave file.
 #[derive(Drop)]
 pub struct Given<'a> {
     /// The name, as it is printed.
@@ -53,7 +54,8 @@ fn recording_of(bytes: &[u8]) -> Result<Recording, WaveFault>
     }
 }
 
-/// A file of this name and these bytes, which are read once for their SHA-256, and are not kept. Takes no memory.
+/// A file of this name and these bytes, which are read once for their SHA-256, and are not kept.
+/// Takes no memory.
 pub fn describe<'a>(name: &'a str, bytes: &[u8]) -> Given<'a>
     ensures { result ≡ described name.now bytes.now }
 {

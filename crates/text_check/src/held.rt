@@ -24,7 +24,8 @@ fn unmet_at<A: Allocator, B: Allocator>(
     op: &Op<B>,
     index: usize,
 ) -> Option<Need>
-    ensures { (need : NeedOf) → slice_get (needs op.now) index ≡ Some need → result ≡ (if is_need_met items.now need then None else Some need) }
+    ensures { (need : NeedOf) → slice_get (needs op.now) index ≡ Some need → result
+        ≡ (if is_need_met items.now need then None else Some need) }
 {
     match op.need(index) {
         Some(need) if !items.meets(&need) => Some(need),
@@ -76,7 +77,8 @@ fn append_held_among<A: Allocator, B: Allocator, C: Allocator>(
     items: &ItemStates<B>,
     ops: &[&Op<C>],
 ) -> Result<(), AllocError>
-    ensures { OnOk result (lines.new ≡ with_lines lines.old (flat_map (held_of items.now) (map (λ o. o.now) ops.now))) }
+    ensures { OnOk result (lines.new ≡ with_lines lines.old
+        (flat_map (held_of items.now) (map (λ o. o.now) ops.now))) }
 {
     for op in ops {
         append_held_of(lines, items, op)?;

@@ -1,5 +1,5 @@
-//! What is to be known of a session before it is rendered: which recordings it wants, which of the files at hand these are, and what sounds otherwise
-//! than one may think.
+//! What is to be known of a session before it is rendered: which recordings it wants, which of the
+//! files at hand these are, and what sounds otherwise than one may think.
 //!
 //! ```rust
 //! use text_check::{Listing, describe, sources_text};
@@ -22,10 +22,12 @@
 //! }
 //! ```
 //!
-//! A file is described by `describe`, which reads its bytes and keeps none of them: so as many recordings can be looked at as there are, one after
-//! another. `specs/SourcesText.antt` is the text.
+//! A file is described by `describe`, which reads its bytes and keeps none of them: so as many
+//! recordings can be looked at as there are, one after another. `specs/SourcesText.antt` is the
+//! text.
 //!
-//! `warnings_text` looks at a session, at the log that it is of, and at a catalogue of its recordings, as a mix of mt_render is made of them:
+//! `warnings_text` looks at a session, at the log that it is of, and at a catalogue of its
+//! recordings, as a mix of mt_render is made of them:
 //!
 //! ```rust
 //! use text_check::warnings_text;

@@ -32,9 +32,11 @@ impl<A: Allocator> Lines<A> {
         }
     }
 
-    /// Counts a line that was written. Refused for want of memory where there are more than a number counts.
+    /// Counts a line that was written. Refused for want of memory where there are more than a
+    /// number counts.
     pub(crate) fn count_one(&mut self) -> Result<(), AllocError>
-        ensures { OnOk result (self.new ≡ record { text = self.old.text; count = self.old.count + 1 }) }
+        ensures { OnOk result (self.new ≡ record { text = self.old.text; count = self.old.count
+            + 1 }) }
     {
         match self.count.checked_add(1) {
             Some(count) => {

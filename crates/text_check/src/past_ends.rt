@@ -3,7 +3,8 @@
 ghost use Rattle.std.specs.Prelude.{◌≡◌, ◌+◌, nat_lt, map, OnOk};
 ghost use Rattle.mt_render.specs.Sources.{found};
 ghost use Rattle.text_check.specs.Lines.{with_lines};
-ghost use Rattle.text_check.specs.WarningsText.{line_where, past_end_line, past_end, past_end_lines};
+ghost use Rattle.text_check.specs.WarningsText.{line_where, past_end_line, past_end};
+ghost use Rattle.text_check.specs.WarningsText.{past_end_lines};
 
 use crate::lines::Lines;
 use crate::warning_line::append_past_end_line;
@@ -31,7 +32,8 @@ fn append_past_end<A: Allocator>(
     clip: &ClipView,
     frames: u64,
 ) -> Result<(), AllocError>
-    ensures { OnOk result (lines.new ≡ with_lines lines.old (line_where (nat_lt frames (clip.now.offset + clip.now.len)) (past_end_line clip.now.clip (clip.now.offset + clip.now.len) frames))) }
+    ensures { OnOk result (lines.new ≡ with_lines lines.old
+        (line_where (nat_lt frames (clip.now.offset + clip.now.len)) (past_end_line clip.now.clip (clip.now.offset + clip.now.len) frames))) }
 {
     if !goes_past(clip, frames) {
         return Ok(());
@@ -46,7 +48,8 @@ fn append_past_end_of<A: Allocator, B: Allocator>(
     catalogue: &Catalogue<'_, B>,
     clip: &ClipView,
 ) -> Result<(), AllocError>
-    ensures { OnOk result (lines.new ≡ with_lines lines.old (past_end clip.now (found catalogue.now clip.now.source))) }
+    ensures { OnOk result (lines.new ≡ with_lines lines.old
+        (past_end clip.now (found catalogue.now clip.now.source))) }
 {
     match catalogue.find(&clip.source) {
         Some(wave) => append_past_end(lines, clip, wave.frames()),
@@ -60,7 +63,8 @@ pub(crate) fn append_past_ends<A: Allocator, B: Allocator>(
     catalogue: &Catalogue<'_, B>,
     clips: &[&ClipView],
 ) -> Result<(), AllocError>
-    ensures { OnOk result (lines.new ≡ with_lines lines.old (past_end_lines catalogue.now (map (λ c. c.now) clips.now))) }
+    ensures { OnOk result (lines.new ≡ with_lines lines.old
+        (past_end_lines catalogue.now (map (λ c. c.now) clips.now))) }
 {
     for clip in clips {
         append_past_end_of(lines, catalogue, clip)?;

@@ -6,7 +6,8 @@ ghost use Rattle.std.specs.Option.{option_copied};
 ghost use Rattle.std.specs.String.{string_bytes};
 ghost use Rattle.mt_op.specs.Digest.{digest_text};
 ghost use Rattle.mt_sessionview.specs.SessionText.{newline};
-ghost use Rattle.text_check.specs.SourcesText.{found_text, source_line, unused_line, missing_line, name_line};
+ghost use Rattle.text_check.specs.SourcesText.{found_text, source_line, unused_line, missing_line};
+ghost use Rattle.text_check.specs.SourcesText.{name_line};
 
 use crate::given::Found;
 use crate::uses::Use;
@@ -16,7 +17,8 @@ use std::alloc::{AllocError, Allocator};
 
 // Writes what was found of a recording that is there.
 fn append_recording<A: Allocator>(text: &mut String<A>, found: &Found) -> Result<(), AllocError>
-    ensures { OnOk result (string_bytes text.new ≡ string_bytes text.old ++ found_text (Some found.now)) }
+    ensures { OnOk result (string_bytes text.new ≡ string_bytes text.old
+        ++ found_text (Some found.now)) }
 {
     append_number(text, " rate ", u64::from(found.recording.rate))?;
     append_number(text, " channels ", u64::from(found.recording.channels))?;
@@ -27,7 +29,8 @@ fn append_recording<A: Allocator>(text: &mut String<A>, found: &Found) -> Result
 
 // Writes ` rate N channels N frames N file NAME` or ` missing`.
 fn append_found<A: Allocator>(text: &mut String<A>, found: Option<&Found>) -> Result<(), AllocError>
-    ensures { OnOk result (string_bytes text.new ≡ string_bytes text.old ++ found_text (option_copied found.entry)) }
+    ensures { OnOk result (string_bytes text.new ≡ string_bytes text.old
+        ++ found_text (option_copied found.entry)) }
 {
     match found {
         None => text.push_str(" missing"),
@@ -43,7 +46,8 @@ pub(crate) fn append_source_line<A: Allocator, B: Allocator>(
     made: Use,
     found: Option<&Found>,
 ) -> Result<(), AllocError>
-    ensures { OnOk result (string_bytes text.new ≡ string_bytes text.old ++ source_line digest made (option_copied found.entry)) }
+    ensures { OnOk result (string_bytes text.new ≡ string_bytes text.old
+        ++ source_line digest made (option_copied found.entry)) }
 {
     append_digest(alloc, text, "source ", digest)?;
     append_number(text, " clips ", made.clips)?;
@@ -62,7 +66,8 @@ pub(crate) fn append_unused_line<A: Allocator, B: Allocator>(
     made: Use,
     name: &str,
 ) -> Result<(), AllocError>
-    ensures { OnOk result (string_bytes text.new ≡ string_bytes text.old ++ unused_line digest made name.now) }
+    ensures { OnOk result (string_bytes text.new ≡ string_bytes text.old
+        ++ unused_line digest made name.now) }
 {
     if made.clips != 0 {
         return Ok(());
@@ -78,7 +83,9 @@ pub(crate) fn append_refused_line<A: Allocator>(
     number: u8,
     name: &str,
 ) -> Result<(), AllocError>
-    ensures { OnOk result (string_bytes text.new ≡ string_bytes text.old ++ (codes "refused " ++ (decimal number ++ (codes " file " ++ (name.now ++ newline ∷ []))))) }
+    ensures { OnOk result (string_bytes text.new ≡ string_bytes text.old
+        ++ (codes "refused " ++ (decimal number ++ (codes " file " ++ (name.now ++ newline ∷ [])))))
+        }
 {
     append_number(text, "refused ", u64::from(number))?;
     append_word(text, " file ", name)?;
@@ -102,7 +109,8 @@ pub(crate) fn append_digest_line<A: Allocator, B: Allocator>(
     text: &mut String<B>,
     digest: Digest,
 ) -> Result<(), AllocError>
-    ensures { OnOk result (string_bytes text.new ≡ string_bytes text.old ++ (digest_text digest ++ newline ∷ [])) }
+    ensures { OnOk result (string_bytes text.new ≡ string_bytes text.old
+        ++ (digest_text digest ++ newline ∷ [])) }
 {
     append_digest(alloc, text, "", digest)?;
     text.push_str("\n")
@@ -113,7 +121,8 @@ pub(crate) fn append_name_line<A: Allocator>(
     text: &mut String<A>,
     found: Option<&Found>,
 ) -> Result<(), AllocError>
-    ensures { OnOk result (string_bytes text.new ≡ string_bytes text.old ++ name_line (option_copied found.entry)) }
+    ensures { OnOk result (string_bytes text.new ≡ string_bytes text.old
+        ++ name_line (option_copied found.entry)) }
 {
     match found {
         None => Ok(()),

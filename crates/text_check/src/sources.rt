@@ -8,7 +8,8 @@ ghost use Rattle.std.specs.String.{string_bytes};
 ghost use Rattle.mt_op.specs.Digest.{digest_text};
 ghost use Rattle.mt_render.specs.Sources.{digest_cmp};
 ghost use Rattle.mt_sessionview.specs.SessionText.{newline};
-ghost use Rattle.text_check.specs.SourcesText.{source_line, other_line, name_line, sources_text, missing_text, files_text, listing_text};
+ghost use Rattle.text_check.specs.SourcesText.{source_line, other_line, name_line, sources_text};
+ghost use Rattle.text_check.specs.SourcesText.{missing_text, files_text, listing_text};
 ghost use Rattle.text_check.specs.Played.{named};
 ghost use Rattle.text_check.specs.Using.{noted, IsNoted};
 
@@ -26,7 +27,8 @@ use mt_sessionview::{Session, TrackView};
 use std::alloc::{AllocError, Allocator};
 use std::collections::BTreeMap;
 
-// What is noted of the recordings of a session: the digests that clips name, what is made of each, and its first file.
+// What is noted of the recordings of a session: the digests that clips name, what is made of each,
+// and its first file.
 #[derive(Drop)]
 struct Noted<'a, A: Allocator> {
     named: Vec<Digest, A>,
@@ -59,7 +61,9 @@ fn append_source_lines<A: Allocator, B: Allocator>(
     uses: &BTreeMap<Digest, Use, A>,
     firsts: &BTreeMap<Digest, Found<'_>, A>,
 ) -> Result<(), AllocError>
-    ensures { OnOk result (string_bytes text.new ≡ string_bytes text.old ++ flat_map (λ d. source_line d (noted uses.now d) (get digest_cmp firsts.now d)) named.now) }
+    ensures { OnOk result (string_bytes text.new ≡ string_bytes text.old
+        ++ flat_map (λ d. source_line d (noted uses.now d) (get digest_cmp firsts.now d)) named.now)
+        }
 {
     for digest in named {
         let made = noted(uses, digest);
@@ -75,7 +79,8 @@ fn append_other_line<A: Allocator, B: Allocator>(
     uses: &BTreeMap<Digest, Use, A>,
     file: &Given<'_>,
 ) -> Result<(), AllocError>
-    ensures { OnOk result (string_bytes text.new ≡ string_bytes text.old ++ other_line (noted uses.now) file.now.name file.now.recording) }
+    ensures { OnOk result (string_bytes text.new ≡ string_bytes text.old
+        ++ other_line (noted uses.now) file.now.name file.now.recording) }
 {
     match file.recording {
         Ok(recording) => {
@@ -93,7 +98,8 @@ fn append_other_lines<A: Allocator, B: Allocator>(
     uses: &BTreeMap<Digest, Use, A>,
     files: &[Given<'_>],
 ) -> Result<(), AllocError>
-    ensures { OnOk result (string_bytes text.new ≡ string_bytes text.old ++ flat_map (λ f. other_line (noted uses.now) f.name f.recording) files.now) }
+    ensures { OnOk result (string_bytes text.new ≡ string_bytes text.old
+        ++ flat_map (λ f. other_line (noted uses.now) f.name f.recording) files.now) }
 {
     for file in files {
         append_other_line(alloc, text, uses, file)?;
@@ -107,7 +113,8 @@ fn push_absent<A: Allocator>(
     digest: Digest,
     absent: &mut Vec<Digest, A>,
 ) -> Result<(), AllocError>
-    ensures { OnOk result (absent.new.items ≡ absent.old.items ++ (if is_none (get digest_cmp firsts.now digest) then digest ∷ [] else [])) }
+    ensures { OnOk result (absent.new.items ≡ absent.old.items
+        ++ (if is_none (get digest_cmp firsts.now digest) then digest ∷ [] else [])) }
 {
     if firsts.contains_key(&digest) {
         return Ok(());
@@ -122,7 +129,8 @@ fn missing_of<A: Allocator + Clone>(
     named: &[Digest],
     firsts: &BTreeMap<Digest, Found<'_>, A>,
 ) -> Result<Vec<Digest, A>, AllocError>
-    ensures { IfOk result (λ missing. missing.items ≡ filter (λ d. is_none (get digest_cmp firsts.now d)) named.now) }
+    ensures { IfOk result (λ missing. missing.items ≡ filter
+        (λ d. is_none (get digest_cmp firsts.now d)) named.now) }
 {
     let mut missing = Vec::new(alloc.clone()?);
     for index in 0..named.len() {
@@ -137,7 +145,8 @@ fn append_digests<A: Allocator, B: Allocator>(
     text: &mut String<B>,
     digests: &[Digest],
 ) -> Result<(), AllocError>
-    ensures { OnOk result (string_bytes text.new ≡ string_bytes text.old ++ flat_map (λ d. digest_text d ++ newline ∷ []) digests.now) }
+    ensures { OnOk result (string_bytes text.new ≡ string_bytes text.old
+        ++ flat_map (λ d. digest_text d ++ newline ∷ []) digests.now) }
 {
     for digest in digests {
         append_digest_line(alloc, text, *digest)?;
@@ -151,7 +160,8 @@ fn append_name_of<A: Allocator, B: Allocator>(
     firsts: &BTreeMap<Digest, Found<'_>, A>,
     digest: Digest,
 ) -> Result<(), AllocError>
-    ensures { OnOk result (string_bytes text.new ≡ string_bytes text.old ++ name_line (get digest_cmp firsts.now digest)) }
+    ensures { OnOk result (string_bytes text.new ≡ string_bytes text.old
+        ++ name_line (get digest_cmp firsts.now digest)) }
 {
     append_name_line(text, firsts.get(&digest))
 }
@@ -162,7 +172,8 @@ fn append_names<A: Allocator, B: Allocator>(
     named: &[Digest],
     firsts: &BTreeMap<Digest, Found<'_>, A>,
 ) -> Result<(), AllocError>
-    ensures { OnOk result (string_bytes text.new ≡ string_bytes text.old ++ flat_map (λ d. name_line (get digest_cmp firsts.now d)) named.now) }
+    ensures { OnOk result (string_bytes text.new ≡ string_bytes text.old
+        ++ flat_map (λ d. name_line (get digest_cmp firsts.now d)) named.now) }
 {
     for index in 0..named.len() {
         append_name_of(text, firsts, digest_at(named, index))?;
@@ -177,7 +188,8 @@ fn append_all<A: Allocator + Clone, B: Allocator, C: Allocator>(
     tracks: &[TrackView<C>],
     files: &[Given<'_>],
 ) -> Result<(), AllocError>
-    ensures { OnOk result (string_bytes text.new ≡ string_bytes text.old ++ sources_text tracks.now files.now) }
+    ensures { OnOk result (string_bytes text.new ≡ string_bytes text.old
+        ++ sources_text tracks.now files.now) }
 {
     let found = note(alloc, tracks, files)?;
     append_source_lines(alloc, text, &found.named, &found.uses, &found.firsts)?;
@@ -205,7 +217,8 @@ fn append_missing<A: Allocator + Clone, B: Allocator, C: Allocator>(
     tracks: &[TrackView<C>],
     files: &[Given<'_>],
 ) -> Result<(), AllocError>
-    ensures { OnOk result (string_bytes text.new ≡ string_bytes text.old ++ missing_text tracks.now files.now) }
+    ensures { OnOk result (string_bytes text.new ≡ string_bytes text.old
+        ++ missing_text tracks.now files.now) }
 {
     let named = named_of(alloc, tracks)?;
     let firsts = first_files(alloc.clone()?, files)?;
@@ -221,7 +234,8 @@ fn append_files<A: Allocator + Clone, B: Allocator, C: Allocator>(
     tracks: &[TrackView<C>],
     files: &[Given<'_>],
 ) -> Result<(), AllocError>
-    ensures { OnOk result (string_bytes text.new ≡ string_bytes text.old ++ files_text tracks.now files.now) }
+    ensures { OnOk result (string_bytes text.new ≡ string_bytes text.old
+        ++ files_text tracks.now files.now) }
 {
     let named = named_of(alloc, tracks)?;
     let firsts = first_files(alloc.clone()?, files)?;
@@ -237,7 +251,8 @@ fn append_listing<A: Allocator + Clone, B: Allocator, C: Allocator>(
     tracks: &[TrackView<C>],
     files: &[Given<'_>],
 ) -> Result<(), AllocError>
-    ensures { OnOk result (string_bytes text.new ≡ string_bytes text.old ++ listing_text listing tracks.now files.now) }
+    ensures { OnOk result (string_bytes text.new ≡ string_bytes text.old
+        ++ listing_text listing tracks.now files.now) }
 {
     match listing {
         Listing::All => append_all(alloc, text, tracks, files),
@@ -246,10 +261,10 @@ fn append_listing<A: Allocator + Clone, B: Allocator, C: Allocator>(
     }
 }
 
-/// Which recordings the clips of a session name, and which of the files these are. `All` has a line for
-/// each digest that a clip names, with the first of the files that has it, and one for each file that no
-/// clip plays or that is no wave file; `Missing` has the digests that no file has, and `Files` the names
-/// of the first files. The page on output describes them.
+/// Which recordings the clips of a session name, and which of the files these are. `All` has a line
+/// for each digest that a clip names, with the first of the files that has it, and one for each
+/// file that no clip plays or that is no wave file; `Missing` has the digests that no file has, and
+/// `Files` the names of the first files. The page on output describes them.
 ///
 /// In a time of n log n for n clips and files. Fails where memory runs out.
 pub fn sources_text<A: Allocator + Clone, B: Allocator>(
@@ -258,7 +273,8 @@ pub fn sources_text<A: Allocator + Clone, B: Allocator>(
     session: &Session<B>,
     files: &[Given<'_>],
 ) -> Result<String<A>, AllocError>
-    ensures { IfOk result (λ text. string_bytes text ≡ listing_text listing session.now.tracks files.now) }
+    ensures { IfOk result (λ text. string_bytes text ≡ listing_text listing session.now.tracks
+        files.now) }
 {
     let mut text = String::new(alloc.clone()?);
     append_listing(&alloc, &mut text, listing, session.tracks.items(), files)?;

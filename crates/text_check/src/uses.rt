@@ -11,7 +11,8 @@ use mt_sessionview::ClipView;
 use std::alloc::{AllocError, Allocator};
 use std::collections::BTreeMap;
 
-/// How many clips of a session play a recording, how many of them are audible, and how far into it they go.
+/// How many clips of a session play a recording, how many of them are audible, and how far into it
+/// they go.
 #[derive(Clone, Copy)]
 pub(crate) struct Use {
     pub(crate) clips: u64,
@@ -43,8 +44,11 @@ fn note_clip<A: Allocator + Clone>(
     clip: &ClipView,
 ) -> Result<(), AllocError>
     requires few { (noted uses.old clip.now.source).clips + 1 < 2 ^ 64 }
-    ensures here { OnOk result (noted uses.new clip.now.source ≡ record { clips = (noted uses.old clip.now.source).clips + 1; audible = (noted uses.old clip.now.source).audible; end = max (noted uses.old clip.now.source).end (clip.now.offset + clip.now.len) }) }
-    ensures others { OnOk result ((d : DigestOf) → is_same clip.now.source d ≡ false → noted uses.new d ≡ noted uses.old d) }
+    ensures here { OnOk result (noted uses.new clip.now.source
+        ≡ record { clips = (noted uses.old clip.now.source).clips
+        + 1; audible = (noted uses.old clip.now.source).audible; end = max (noted uses.old clip.now.source).end (clip.now.offset + clip.now.len) }) }
+    ensures others { OnOk result ((d : DigestOf) → is_same clip.now.source d ≡ false
+        → noted uses.new d ≡ noted uses.old d) }
 {
     let before = noted(uses, &clip.source);
     let end = u64::from(clip.offset) + u64::from(clip.len);
@@ -63,8 +67,11 @@ fn note_audible<A: Allocator + Clone>(
     clip: &ClipView,
 ) -> Result<(), AllocError>
     requires few { (noted uses.old clip.now.source).audible + 1 < 2 ^ 64 }
-    ensures here { OnOk result (noted uses.new clip.now.source ≡ record { clips = (noted uses.old clip.now.source).clips; audible = (noted uses.old clip.now.source).audible + 1; end = (noted uses.old clip.now.source).end }) }
-    ensures others { OnOk result ((d : DigestOf) → is_same clip.now.source d ≡ false → noted uses.new d ≡ noted uses.old d) }
+    ensures here { OnOk result (noted uses.new clip.now.source
+        ≡ record { clips = (noted uses.old clip.now.source).clips; audible =
+        (noted uses.old clip.now.source).audible + 1; end = (noted uses.old clip.now.source).end }) }
+    ensures others { OnOk result ((d : DigestOf) → is_same clip.now.source d ≡ false
+        → noted uses.new d ≡ noted uses.old d) }
 {
     let before = noted(uses, &clip.source);
     let now = Use {

@@ -2,7 +2,8 @@
 
 ghost use Rattle.std.specs.Prelude.{◌≡◌, ◌++◌, OnOk};
 ghost use Rattle.std.specs.String.{string_bytes};
-ghost use Rattle.text_check.specs.WarningsText.{past_end_line, covered_line, one_channel_line, behind_line, needs_line, warnings_line};
+ghost use Rattle.text_check.specs.WarningsText.{past_end_line, covered_line, one_channel_line};
+ghost use Rattle.text_check.specs.WarningsText.{behind_line, needs_line, warnings_line};
 
 use base_text::append_number;
 use mt_op::{Digest, append_digest, append_stamp};
@@ -16,7 +17,8 @@ pub(crate) fn append_past_end_line<A: Allocator>(
     end: u64,
     frames: u64,
 ) -> Result<(), AllocError>
-    ensures { OnOk result (string_bytes text.new ≡ string_bytes text.old ++ past_end_line clip end frames) }
+    ensures { OnOk result (string_bytes text.new ≡ string_bytes text.old
+        ++ past_end_line clip end frames) }
 {
     append_stamp(text, "past-end ", clip)?;
     append_number(text, " end ", end)?;
@@ -42,7 +44,8 @@ pub(crate) fn append_one_channel_line<A: Allocator, B: Allocator>(
     digest: Digest,
     channels: u64,
 ) -> Result<(), AllocError>
-    ensures { OnOk result (string_bytes text.new ≡ string_bytes text.old ++ one_channel_line digest channels) }
+    ensures { OnOk result (string_bytes text.new ≡ string_bytes text.old
+        ++ one_channel_line digest channels) }
 {
     append_digest(alloc, text, "one-channel ", digest)?;
     append_number(text, " channels ", channels)?;

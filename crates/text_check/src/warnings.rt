@@ -31,7 +31,8 @@ fn append_lines<A: Allocator + Clone, B: Allocator, C: Allocator, D: Allocator>(
     catalogue: &Catalogue<'_, D>,
     format: Format,
 ) -> Result<(), AllocError>
-    ensures { OnOk result (lines.new ≡ with_lines lines.old (warning_lines (over tracks.now format catalogue.now) markers.now (operations log.now))) }
+    ensures { OnOk result (lines.new ≡ with_lines lines.old
+        (warning_lines (over tracks.now format catalogue.now) markers.now (operations log.now))) }
 {
     let clips = audible_clips(alloc.clone()?, tracks)?;
     append_past_ends(lines, catalogue, &clips)?;
@@ -52,7 +53,8 @@ fn text_of<A: Allocator + Clone, C: Allocator, D: Allocator>(
     catalogue: &Catalogue<'_, D>,
     format: Format,
 ) -> Result<String<A>, AllocError>
-    ensures { IfOk result (λ text. string_bytes text ≡ warnings_text (over tracks.now format catalogue.now) markers.now (operations log.now)) }
+    ensures { IfOk result (λ text. string_bytes text ≡ warnings_text
+        (over tracks.now format catalogue.now) markers.now (operations log.now)) }
 {
     let mut lines = Lines::new(alloc.clone()?);
     append_lines(alloc, &mut lines, log, tracks, markers, catalogue, format)?;
@@ -61,14 +63,14 @@ fn text_of<A: Allocator + Clone, C: Allocator, D: Allocator>(
     Ok(text)
 }
 
-/// What sounds otherwise than one may think where a session is put out in a format, its clips playing
-/// the recordings of a catalogue: a line for each clip past its recording's end, each that is covered,
-/// each recording of which some channels are not heard, each marker at or after the end, and each
-/// operation that is held; last `warnings N`. The page on output describes them. Of a recording that is
-/// not in the catalogue nothing is said.
+/// What sounds otherwise than one may think where a session is put out in a format, its clips
+/// playing the recordings of a catalogue: a line for each clip past its recording's end, each that
+/// is covered, each recording of which some channels are not heard, each marker at or after the
+/// end, and each operation that is held; last `warnings N`. The page on output describes them. Of a
+/// recording that is not in the catalogue nothing is said.
 ///
-/// In a time of n log n for n clips, markers and operations, and the tags that these list. Fails where
-/// memory runs out.
+/// In a time of n log n for n clips, markers and operations, and the tags that these list. Fails
+/// where memory runs out.
 pub fn warnings_text<A: Allocator + Clone, B: Allocator, C: Allocator>(
     alloc: A,
     log: &Log<A>,
@@ -77,7 +79,8 @@ pub fn warnings_text<A: Allocator + Clone, B: Allocator, C: Allocator>(
     format: Format,
 ) -> Result<String<A>, AllocError>
     ensures { IfOk result (λ text. string_bytes text
-        ≡ warnings_text (over session.now.tracks format catalogue.now) session.now.markers (operations log.now)) }
+        ≡ warnings_text (over session.now.tracks format catalogue.now) session.now.markers
+            (operations log.now)) }
 {
     let (tracks, markers) = (session.tracks.items(), session.markers.items());
     text_of(&alloc, log, tracks, markers, catalogue, format)

@@ -1,4 +1,5 @@
--- Two logs beside each other (profile): which operations one of them has and the other has not as they are, and in which order these are told.
+-- Two logs beside each other (profile): which operations one of them has and the other has not as
+-- they are, and in which order these are told.
 use Rattle.std.specs.Prelude.{Bool, true, false, not, List, ◌++◌, map, filter, Option, Some, None}
 use Rattle.std.specs.FinMap as fin
 use Rattle.std.specs.Option.{is_none}
@@ -34,7 +35,8 @@ is_other o (Some p) = not (bytes_eq (op_text o) (op_text p))
 abbrev pub has_another : LogMap → Op → Bool
 has_another log o = is_other o (fin.get log (op_dot o))
 
--- of the operations of one log, by rising dot, those that another log lacks; those that it has too; and those for which it has another one
+-- of the operations of one log, by rising dot, those that another log lacks; those that it has too;
+-- and those for which it has another one
 abbrev pub alone : LogMap → LogMap → List Op
 alone one other = filter (lacks other) (operations one)
 
@@ -46,7 +48,8 @@ conflicting one other = filter (has_another other) (operations one)
 
 -- ---- in which order
 
--- an operation that is told, of the left or of the right log, and whether the other one has another under its dot
+-- an operation that is told, of the left or of the right log, and whether the other one has another
+-- under its dot
 pub record Told : Type 0 where
   pub right : Bool
   pub conflicts : Bool
@@ -57,7 +60,8 @@ told_as right conflicts o = record { right = right; conflicts = conflicts; op = 
 
 -- what is told of one log beside another
 abbrev pub told_of : Bool → LogMap → LogMap → List Told
-told_of right one other = map (told_as right false) (alone one other) ++ map (told_as right true) (conflicting one other)
+told_of right one other = map (told_as right false) (alone one other)
+    ++ map (told_as right true) (conflicting one other)
 
 -- by stamp; of two of one stamp that of the left log comes first
 abbrev pub told_cmp : Told → Told → Ordering

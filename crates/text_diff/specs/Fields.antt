@@ -1,5 +1,7 @@
--- The fields that operations of two logs both write (profile): those that a merge of the logs decides.
-use Rattle.std.specs.Prelude.{ℕ, Bool, false, ◌==◌, ◌&&◌, List, [], ◌∷◌, map, Option, Some, None, codes, if◌then◌else◌}
+-- The fields that operations of two logs both write (profile): those that a merge of the logs
+-- decides.
+use Rattle.std.specs.Prelude.{ℕ, Bool, false, ◌==◌, ◌&&◌, List, [], ◌∷◌, map, Option, Some, None}
+use Rattle.std.specs.Prelude.{codes, if◌then◌else◌}
 use Rattle.std.specs.List.{flat_map, filter_map, find}
 use Rattle.std.specs.Ordering.{nat_cmp, ordering_then}
 use Rattle.std.specs.declared.cmp.Ordering.{Ordering}
@@ -73,7 +75,8 @@ field_cmp a b = ordering_then (stamp_cmp a.item b.item) (nat_cmp (rank a.field) 
 
 -- by item, by field, and then by the stamp of the operation
 abbrev pub write_cmp : FieldWrite → FieldWrite → Ordering
-write_cmp a b = ordering_then (stamp_cmp a.item b.item) (ordering_then (nat_cmp (rank a.field) (rank b.field)) (stamp_cmp a.by b.by))
+write_cmp a b = ordering_then (stamp_cmp a.item b.item)
+    (ordering_then (nat_cmp (rank a.field) (rank b.field)) (stamp_cmp a.by b.by))
 
 -- whether two write one field of one item
 abbrev pub is_same_field : FieldWrite → FieldWrite → Bool
@@ -91,7 +94,8 @@ abbrev pub last_of_each : List FieldWrite → List FieldWrite
 last_of_each [] = []
 last_of_each (w ∷ ws) = if is_followed w ws then last_of_each ws else w ∷ last_of_each ws
 
--- the writes of these operations that no other one of these outdoes: of each field the one with the greatest stamp, by item and then by field
+-- the writes of these operations that no other one of these outdoes: of each field the one with the
+-- greatest stamp, by item and then by field
 abbrev pub last_writes : List Op → List FieldWrite
 last_writes ops = last_of_each (sort_by write_cmp (flat_map writes_in ops))
 
@@ -106,6 +110,7 @@ both_of w (Some v) = Some (record { item = w.item; field = w.field; left = w.by;
 abbrev pub also_in : List FieldWrite → FieldWrite → Option BothWrote
 also_in rights w = both_of w (find (is_same_field w) rights)
 
--- each field that operations of the one list and of the other write, with the greatest stamp of either, by item and then by field
+-- each field that operations of the one list and of the other write, with the greatest stamp of
+-- either, by item and then by field
 abbrev pub both_wrote : List Op → List Op → List BothWrote
 both_wrote lefts rights = filter_map (also_in (last_writes rights)) (last_writes lefts)

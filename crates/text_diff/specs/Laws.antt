@@ -21,33 +21,44 @@ IsFiled log = AreLogged (operations log) × (log_of (operations log) ≡ log)
 
 -- A log beside itself: nothing is told, and all its operations are shared.
 abbrev pub SameTellsNothing : Type 0
-SameTellsNothing = (log : LogMap) → IsFiled log → (told log log ≡ []) × (shared log log ≡ operations log)
+SameTellsNothing = (log : LogMap) → IsFiled log → (told log log ≡ [])
+    × (shared log log ≡ operations log)
 
 -- Each operation of a log is alone, shared, or one of two under its dot, and only one of these.
 abbrev pub EachIsCounted : Type 0
-EachIsCounted = (one other : LogMap) → length (alone one other) + (length (shared one other) + length (conflicting one other)) ≡ length (operations one)
+EachIsCounted = (one other : LogMap) → length (alone one other)
+    + (length (shared one other) + length (conflicting one other)) ≡ length (operations one)
 
 -- the same operation, told of the other log
 abbrev pub turned : Told → Told
 turned t = record { right = not t.right; conflicts = t.conflicts; op = t.op }
 
--- The other way round the same operations are told, each of the other log; the same ones are shared; and the same dots name two operations.
+-- The other way round the same operations are told, each of the other log; the same ones are
+-- shared; and the same dots name two operations.
 pub record ExchangeTurns : Type 0 where
-  pub tells : (left right : LogMap) (t : Told) → Contains (told left right) t → Contains (told right left) (turned t)
-  pub shares : (left right : LogMap) → IsFiled left → IsFiled right → shared left right ≡ shared right left
-  pub conflicts : (left right : LogMap) → IsFiled left → IsFiled right → map op_dot (conflicting left right) ≡ map op_dot (conflicting right left)
+  pub tells : (left right : LogMap) (t : Told) → Contains (told left right) t
+      → Contains (told right left) (turned t)
+  pub shares : (left right : LogMap) → IsFiled left → IsFiled right → shared left right
+      ≡ shared right left
+  pub conflicts : (left right : LogMap) → IsFiled left → IsFiled right
+      → map op_dot (conflicting left right) ≡ map op_dot (conflicting right left)
 
--- one of these operations writes the field of the item under this stamp, and none of them does so under a greater one
+-- one of these operations writes the field of the item under this stamp, and none of them does so
+-- under a greater one
 pub record IsLastWrite (ops : List Op) (item : Stamp) (which : Field) (by : Stamp) : Type 0 where
   pub written : Contains (flat_map writes_in ops) (field_write item by which)
-  pub last : (v : FieldWrite) → Contains (flat_map writes_in ops) v → v.item ≡ item → v.field ≡ which → stamp_cmp by v.by ≢ Less
+  pub last : (v : FieldWrite) → Contains (flat_map writes_in ops) v → v.item ≡ item → v.field
+      ≡ which → stamp_cmp by v.by ≢ Less
 
 -- by item and then by field
 abbrev pub both_cmp : BothWrote → BothWrote → Ordering
 both_cmp a b = ordering_then (stamp_cmp a.item b.item) (nat_cmp (rank a.field) (rank b.field))
 
--- Of two lists of operations each field that both write is told once, by item and then by field, with the last stamp of either; and no other is told.
+-- Of two lists of operations each field that both write is told once, by item and then by field,
+-- with the last stamp of either; and no other is told.
 pub record BothAreLast : Type 0 where
   pub rise : (lefts rights : List Op) → RisesStrictly both_cmp (both_wrote lefts rights)
-  pub each : (lefts rights : List Op) (b : BothWrote) → Contains (both_wrote lefts rights) b → IsLastWrite lefts b.item b.field b.left × IsLastWrite rights b.item b.field b.right
-  pub all : (lefts rights : List Op) (b : BothWrote) → IsLastWrite lefts b.item b.field b.left → IsLastWrite rights b.item b.field b.right → Contains (both_wrote lefts rights) b
+  pub each : (lefts rights : List Op) (b : BothWrote) → Contains (both_wrote lefts rights) b
+      → IsLastWrite lefts b.item b.field b.left × IsLastWrite rights b.item b.field b.right
+  pub all : (lefts rights : List Op) (b : BothWrote) → IsLastWrite lefts b.item b.field b.left
+      → IsLastWrite rights b.item b.field b.right → Contains (both_wrote lefts rights) b

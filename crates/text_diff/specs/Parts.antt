@@ -10,7 +10,8 @@ pub record PartsOf : Type 0 where
   pub conflicting : List Op
 
 abbrev pub parts_of : LogMap → List Op → PartsOf
-parts_of other ops = record { alone = filter (lacks other) ops; conflicting = filter (has_another other) ops }
+parts_of other ops = record { alone = filter (lacks other) ops; conflicting = filter
+    (has_another other) ops }
 
 abbrev pub both_parts : PartsOf → PartsOf → PartsOf
 both_parts p q = record { alone = p.alone ++ q.alone; conflicting = p.conflicting ++ q.conflicting }
@@ -21,4 +22,5 @@ parts_beside one other = record { alone = alone one other; conflicting = conflic
 
 -- what is told of them, as of the left or of the right log
 abbrev pub told_in : Bool → PartsOf → List Told
-told_in right parts = map (told_as right false) parts.alone ++ map (told_as right true) parts.conflicting
+told_in right parts = map (told_as right false) parts.alone
+    ++ map (told_as right true) parts.conflicting

@@ -1,4 +1,5 @@
--- How the sessions of two logs are written beside each other (profile): the lines that go and those that come, and how many operations there are.
+-- How the sessions of two logs are written beside each other (profile): the lines that go and those
+-- that come, and how many operations there are.
 use Rattle.std.specs.Prelude.{ℕ, Bool, not, List, [], ◌∷◌, ◌++◌, ◌==◌, filter, codes}
 use Rattle.std.specs.List.{flat_map, list_any, slice_split}
 use Rattle.std.specs.Str.{bytes_eq}
@@ -11,7 +12,8 @@ use Rattle.text_diff.specs.Counts.{last_line}
 abbrev pub view_text : LogMap → List ℕ
 view_text log = session_text (session_of (operations log))
 
--- What stands between the line feeds of a text, and behind the last one: that is empty in each session's text, so it neither goes nor comes.
+-- What stands between the line feeds of a text, and behind the last one: that is empty in each
+-- session's text, so it neither goes nor comes.
 abbrev pub lines_of : List ℕ → List (List ℕ)
 lines_of text = slice_split (λ b. b == newline) text
 
@@ -29,8 +31,11 @@ marked_line mark line = mark ++ (line ++ newline ∷ [])
 
 -- the lines of one log's session that the other log's session has not, each behind a mark
 abbrev pub lines_alone : List ℕ → LogMap → LogMap → List ℕ
-lines_alone mark one other = flat_map (marked_line mark) (not_among (lines_of (view_text other)) (lines_of (view_text one)))
+lines_alone mark one other = flat_map (marked_line mark)
+    (not_among (lines_of (view_text other)) (lines_of (view_text one)))
 
--- `- LINE` for what goes, the left session's lines in their order; then `+ LINE` for what comes, the right session's lines in theirs
+-- `- LINE` for what goes, the left session's lines in their order; then `+ LINE` for what comes,
+-- the right session's lines in theirs
 abbrev pub view_diff_text : LogMap → LogMap → List ℕ
-view_diff_text left right = lines_alone (codes "- ") left right ++ (lines_alone (codes "+ ") right left ++ last_line left right)
+view_diff_text left right = lines_alone (codes "- ") left right
+    ++ (lines_alone (codes "+ ") right left ++ last_line left right)

@@ -20,7 +20,8 @@ pub(crate) struct BothWrote {
     pub(crate) right: Stamp,
 }
 
-// What is told of the field of a left write, where one of the right ones is of it; those rise by item and field.
+// What is told of the field of a left write, where one of the right ones is of it; those rise by
+// item and field.
 fn also_in(rights: &[FieldWrite], write: &FieldWrite) -> Option<BothWrote>
     requires { RisesStrictly field_cmp rights.now }
     ensures { result ≡ also_in rights.now write.now }
@@ -61,7 +62,8 @@ pub(crate) fn both_wrote<A: Allocator, B: Allocator + Clone>(
     lefts: &[&Op<A>],
     rights: &[&Op<A>],
 ) -> Result<Vec<BothWrote, B>, AllocError>
-    ensures { IfOk result (λ both. both.items ≡ both_wrote (map (λ o. o.now) lefts.now) (map (λ o. o.now) rights.now)) }
+    ensures { IfOk result (λ both. both.items ≡ both_wrote (map (λ o. o.now) lefts.now)
+        (map (λ o. o.now) rights.now)) }
 {
     let left = last_writes(alloc, lefts)?;
     let right = last_writes(alloc, rights)?;

@@ -19,7 +19,8 @@ fn append_counts<A: Allocator>(
     both: usize,
     conflicts: usize,
 ) -> Result<(), AllocError>
-    ensures { OnOk result (string_bytes text.new ≡ string_bytes text.old ++ counts_line left right both conflicts) }
+    ensures { OnOk result (string_bytes text.new ≡ string_bytes text.old
+        ++ counts_line left right both conflicts) }
 {
     append_number(text, "left ", left as u64)?;
     append_number(text, " right ", right as u64)?;
@@ -46,7 +47,8 @@ pub(crate) fn append_last_line<A: Allocator, B: Allocator>(
 ) -> Result<(), AllocError>
     requires left { of_left.now ≡ parts_beside left.now right.now }
     requires right { of_right.now ≡ parts_beside right.now left.now }
-    ensures { OnOk result (string_bytes text.new ≡ string_bytes text.old ++ last_line left.now right.now) }
+    ensures { OnOk result (string_bytes text.new ≡ string_bytes text.old
+        ++ last_line left.now right.now) }
 {
     append_counts(
         text,

@@ -1,4 +1,5 @@
-//! Two logs beside each other as text: the operations that one of them alone has, the fields that both write, or what changes in the session.
+//! Two logs beside each other as text: the operations that one of them alone has, the fields that
+//! both write, or what changes in the session.
 //!
 //! ```rust
 //! use text_diff::{diff_text, diff_with_fields_text, view_diff_text};
@@ -40,9 +41,11 @@
 //! }
 //! ```
 //!
-//! Lines stand by rising stamp, and tell what an operation does in the words of a log's text. Where both logs have an operation of one dot,
-//! and these are not the same, both stand there, that of the left log first where their stamps are one. The last line counts. `specs/DiffText.antt` is the
-//! text, with the fields that both write where it is asked for (`specs/Fields.antt`). `specs/ViewDiff.antt` is the text of what changes in the session.
+//! Lines stand by rising stamp, and tell what an operation does in the words of a log's text. Where
+//! both logs have an operation of one dot, and these are not the same, both stand there, that of
+//! the left log first where their stamps are one. The last line counts. `specs/DiffText.antt` is
+//! the text, with the fields that both write where it is asked for (`specs/Fields.antt`).
+//! `specs/ViewDiff.antt` is the text of what changes in the session.
 #![tactic(auto)]
 
 mod both;

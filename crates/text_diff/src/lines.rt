@@ -49,7 +49,8 @@ pub(crate) fn append_lines<A: Allocator, B: Allocator, C: Allocator>(
     text: &mut String<B>,
     all: &[Told<'_, C>],
 ) -> Result<(), AllocError>
-    ensures { OnOk result (string_bytes text.new ≡ string_bytes text.old ++ flat_map told_line all.now) }
+    ensures { OnOk result (string_bytes text.new ≡ string_bytes text.old
+        ++ flat_map told_line all.now) }
 {
     for told in all {
         append_told(alloc, text, told)?;
@@ -74,7 +75,8 @@ pub(crate) fn append_both_lines<A: Allocator>(
     text: &mut String<A>,
     all: &[BothWrote],
 ) -> Result<(), AllocError>
-    ensures { OnOk result (string_bytes text.new ≡ string_bytes text.old ++ flat_map both_line all.now) }
+    ensures { OnOk result (string_bytes text.new ≡ string_bytes text.old
+        ++ flat_map both_line all.now) }
 {
     for both in all {
         append_both(text, both)?;

@@ -26,7 +26,8 @@ impl<'a, A: Allocator> Model for Parts<'a, A> {
 
     ghost Value = { PartsOf };
 
-    ghost view = { λ p. record { alone = map (λ o. o.now) p.alone.items; conflicting = map (λ o. o.now) p.conflicting.items } };
+    ghost view = { λ p. record { alone = map (λ o. o.now) p.alone.items; conflicting = map
+        (λ o. o.now) p.conflicting.items } };
 }
 
 // Whether an operation is the one that another log has under its dot.

@@ -16,7 +16,8 @@ use crate::told::told_ops;
 use mt_opcodec::Log;
 use std::alloc::{AllocError, Allocator};
 
-// Writes the lines of the operations that are told, behind what `text` holds. The parts are those of the logs.
+// Writes the lines of the operations that are told, behind what `text` holds. The parts are those
+// of the logs.
 fn append_told<A: Allocator + Clone, B: Allocator>(
     alloc: &A,
     text: &mut String<B>,
@@ -34,7 +35,8 @@ fn append_told<A: Allocator + Clone, B: Allocator>(
     append_lines(alloc, text, &all)
 }
 
-// Writes the lines of the fields that operations of the left log alone and operations of the right log alone both write.
+// Writes the lines of the fields that operations of the left log alone and operations of the right
+// log alone both write.
 fn append_fields<A: Allocator + Clone, B: Allocator>(
     alloc: &A,
     text: &mut String<B>,
@@ -55,7 +57,8 @@ fn append_diff<A: Allocator + Clone, B: Allocator>(
     left: &Log<A>,
     right: &Log<A>,
 ) -> Result<(), AllocError>
-    ensures { OnOk result (string_bytes text.new ≡ string_bytes text.old ++ diff_text left.now right.now) }
+    ensures { OnOk result (string_bytes text.new ≡ string_bytes text.old
+        ++ diff_text left.now right.now) }
 {
     let of_left = parts_of(alloc, left, right)?;
     let of_right = parts_of(alloc, right, left)?;
@@ -70,7 +73,8 @@ fn append_diff_with_fields<A: Allocator + Clone, B: Allocator>(
     left: &Log<A>,
     right: &Log<A>,
 ) -> Result<(), AllocError>
-    ensures { OnOk result (string_bytes text.new ≡ string_bytes text.old ++ diff_text_with_fields left.now right.now) }
+    ensures { OnOk result (string_bytes text.new ≡ string_bytes text.old
+        ++ diff_text_with_fields left.now right.now) }
 {
     let of_left = parts_of(alloc, left, right)?;
     let of_right = parts_of(alloc, right, left)?;
@@ -79,10 +83,10 @@ fn append_diff_with_fields<A: Allocator + Clone, B: Allocator>(
     append_last_line(text, left, right, &of_left, &of_right)
 }
 
-/// The operations that one of two logs alone has, a line each, by rising stamp: `- STAMP ACT` for one
-/// of the left log, `+ STAMP ACT` for one of the right log, and `! STAMP ACT` for both of those that
-/// have one dot and are not the same. Last `left N right N both N clashes N`. The page on output
-/// describes it.
+/// The operations that one of two logs alone has, a line each, by rising stamp: `- STAMP ACT` for
+/// one of the left log, `+ STAMP ACT` for one of the right log, and `! STAMP ACT` for both of those
+/// that have one dot and are not the same. Last `left N right N both N clashes N`. The page on
+/// output describes it.
 ///
 /// In a time of n log n for n operations. Fails where memory runs out.
 pub fn diff_text<A: Allocator + Clone>(
@@ -97,10 +101,10 @@ pub fn diff_text<A: Allocator + Clone>(
     Ok(text)
 }
 
-/// The text of `diff_text`, and before its last line a line `both ITEM FIELD STAMP STAMP` for each field
-/// of an item that an operation of the left log alone and one of the right log alone both write: what
-/// a merge of the logs decides. The stamps are the greatest with which each of them writes it. The page
-/// on output describes it.
+/// The text of `diff_text`, and before its last line a line `both ITEM FIELD STAMP STAMP` for each
+/// field of an item that an operation of the left log alone and one of the right log alone both
+/// write: what a merge of the logs decides. The stamps are the greatest with which each of them
+/// writes it. The page on output describes it.
 ///
 /// In a time of n log n for n operations. Fails where memory runs out.
 pub fn diff_with_fields_text<A: Allocator + Clone>(

@@ -10,7 +10,8 @@ use mt_opcodec::Log;
 use std::alloc::{AllocError, Allocator};
 use std::marker::Model;
 
-/// An operation that is told: of the right log or of the left one, and whether the other log has another one under its dot.
+/// An operation that is told: of the right log or of the left one, and whether the other log has
+/// another one under its dot.
 #[derive(Drop)]
 pub(crate) struct Told<'a, A: Allocator> {
     pub(crate) right: bool,
@@ -33,7 +34,8 @@ fn push_told<'a, A: Allocator, B: Allocator>(
     right: bool,
     conflicts: bool,
 ) -> Result<(), AllocError>
-    ensures { OnOk result (told.new.items ≡ told.old.items ++ map (told_as right conflicts) (map (λ o. o.now) ops.now)) }
+    ensures { OnOk result (told.new.items ≡ told.old.items
+        ++ map (told_as right conflicts) (map (λ o. o.now) ops.now)) }
 {
     for op in ops {
         told.push(Told {
@@ -57,7 +59,8 @@ fn push_parts<'a, A: Allocator, B: Allocator>(
     push_told(told, &parts.conflicting, right, true)
 }
 
-/// What is told of two logs, by rising stamp; of two of one stamp that of the left log comes first. The parts are those of the logs.
+/// What is told of two logs, by rising stamp; of two of one stamp that of the left log comes first.
+/// The parts are those of the logs.
 pub(crate) fn told_ops<'a, A: Allocator + Clone>(
     alloc: &A,
     left: &Log<A>,

@@ -43,13 +43,13 @@ fn count_line<A: Allocator + Clone>(
     Ok(line)
 }
 
-/// What changes in the session from the left log to the right one, in the lines of a session's text:
-/// first, as `- LINE`, each line of the left session that the right one lacks; then, as `+ LINE`, each
-/// line of the right session that the left one lacks, each in its session's order. Last the last line
-/// of `diff_text`. The page on output describes it.
+/// What changes in the session from the left log to the right one, in the lines of a session's
+/// text: first, as `- LINE`, each line of the left session that the right one lacks; then, as `+
+/// LINE`, each line of the right session that the left one lacks, each in its session's order. Last
+/// the last line of `diff_text`. The page on output describes it.
 ///
-/// In a time of n log n for n operations, the tags that they list, and lines; both texts are in memory
-/// at once. Fails where memory runs out.
+/// In a time of n log n for n operations, the tags that they list, and lines; both texts are in
+/// memory at once. Fails where memory runs out.
 pub fn view_diff_text<A: Allocator + Clone>(
     alloc: A,
     left: &Log<A>,

@@ -41,9 +41,11 @@ fn sorted_lines<'a, A: Allocator>(
     alloc: A,
     lines: &[&'a [u8]],
 ) -> Result<Vec<&'a [u8], A>, AllocError>
-    ensures sorted { IfOk result (λ sorted. IsSorted (λ a b. slice_cmp nat_cmp a.now b.now) sorted.items) }
+    ensures sorted { IfOk result (λ sorted. IsSorted (λ a b. slice_cmp nat_cmp a.now b.now)
+        sorted.items) }
     ensures same { IfOk result (λ sorted. (line : List ℕ)
-        → is_among (map (λ l. l.now) sorted.items) line ≡ is_among (map (λ l. l.now) lines.now) line) }
+        → is_among (map (λ l. l.now) sorted.items) line ≡ is_among (map (λ l. l.now) lines.now)
+            line) }
 {
     let mut sorted = Vec::with_capacity(alloc, lines.len())?;
     sorted.extend_from_slice(lines)?;
@@ -82,7 +84,8 @@ fn append_not_among<A: Allocator>(
 ) -> Result<(), AllocError>
     requires { IsSorted (λ a b. slice_cmp nat_cmp a.now b.now) others.now }
     ensures { OnOk result (text.new.items ≡ text.old.items
-        ++ flat_map (marked_line mark.now) (not_among (map (λ l. l.now) others.now) (map (λ l. l.now) lines.now))) }
+        ++ flat_map (marked_line mark.now) (not_among (map (λ l. l.now) others.now)
+            (map (λ l. l.now) lines.now))) }
 {
     for line in lines {
         if !is_among(others, *line) {
@@ -101,7 +104,8 @@ pub(crate) fn append_alone<A: Allocator + Clone>(
     others: &[&[u8]],
 ) -> Result<(), AllocError>
     ensures { OnOk result (text.new.items ≡ text.old.items
-        ++ flat_map (marked_line mark.now) (not_among (map (λ l. l.now) others.now) (map (λ l. l.now) lines.now))) }
+        ++ flat_map (marked_line mark.now) (not_among (map (λ l. l.now) others.now)
+            (map (λ l. l.now) lines.now))) }
 {
     let sorted = sorted_lines(alloc.clone()?, others)?;
     append_not_among(text, mark, lines, &sorted)

@@ -3,7 +3,8 @@
 ghost use Rattle.std.specs.Prelude.{◌≡◌, ◌++◌, map, drop, OnOk, IfOk};
 ghost use Rattle.std.specs.List.{flat_map};
 ghost use Rattle.mt_stamp.specs.Sorting.{sort_by, RisesStrictly};
-ghost use Rattle.text_diff.specs.Fields.{field_write, writes_in, field_cmp, write_cmp, is_same_field, is_followed, last_of_each, last_writes};
+ghost use Rattle.text_diff.specs.Fields.{field_write, writes_in, field_cmp, write_cmp};
+ghost use Rattle.text_diff.specs.Fields.{is_same_field, is_followed, last_of_each, last_writes};
 
 use crate::field::Field;
 use mt_op::{Body, Op};
@@ -107,7 +108,8 @@ fn sorted_writes<A: Allocator, B: Allocator>(
     alloc: B,
     ops: &[&Op<A>],
 ) -> Result<Vec<FieldWrite, B>, AllocError>
-    ensures { IfOk result (λ all. all.items ≡ sort_by write_cmp (flat_map writes_in (map (λ o. o.now) ops.now))) }
+    ensures { IfOk result (λ all. all.items ≡ sort_by write_cmp
+        (flat_map writes_in (map (λ o. o.now) ops.now))) }
 {
     let mut all = writes_of(alloc, ops)?;
     all.sort_by_key(|write| (write.item, (write.field.rank(), write.by)))?;

@@ -7,7 +7,8 @@ use Rattle.base_text.specs.Cutting.{newline}
 abbrev pub space : ℕ
 space = 32
 
--- The words of a line, which is cut at each space: between two spaces stands the empty word, and the empty line has that one word.
+-- The words of a line, which is cut at each space: between two spaces stands the empty word, and
+-- the empty line has that one word.
 abbrev pub words : List ℕ → List (List ℕ)
 words line = slice_split (λ b. b == space) line
 
@@ -15,7 +16,8 @@ words line = slice_split (λ b. b == space) line
 abbrev pub spaced : List (List ℕ) → List ℕ
 spaced ws = join_with_byte space ws
 
--- The text cut at each line feed: what stands behind the last one is a piece too, also where it is empty.
+-- The text cut at each line feed: what stands behind the last one is a piece too, also where it is
+-- empty.
 abbrev pub pieces : List ℕ → List (List ℕ)
 pieces text = slice_split (λ b. b == newline) text
 

@@ -1,10 +1,12 @@
 -- Lines as JSON (profile; JSON is RFC 8259): an object a line, with a member for each part.
-use Rattle.std.specs.Prelude.{ℕ, ◌^◌, true, false, ◌&&◌, nat_lt, List, [], ◌∷◌, ◌++◌, Option, Some, None, if◌then◌else◌, codes}
+use Rattle.std.specs.Prelude.{ℕ, ◌^◌, true, false, ◌&&◌, nat_lt, List, [], ◌∷◌, ◌++◌, Option, Some}
+use Rattle.std.specs.Prelude.{None, if◌then◌else◌, codes}
 use Rattle.std.specs.List.{flat_map}
 use Rattle.std.specs.Fmt.{decimal}
 use Rattle.std.specs.Str.{bytes_eq, is_utf8}
 use Rattle.std.specs.Str.Parse.{digits_value}
-use Rattle.serde_json.specs.Data.{unsigned, Data, null, boolean, number, string, array, object, Items, no_items, item, Members, no_members, member}
+use Rattle.serde_json.specs.Data.{unsigned, Data, null, boolean, number, string, array, object}
+use Rattle.serde_json.specs.Data.{Items, no_items, item, Members, no_members, member}
 use Rattle.serde_json.specs.Written.{compact_text}
 use Rattle.text_json.specs.declared.slot.Kind.{Kind}
 use Rattle.text_json.specs.declared.slot.Kind.TheVariants.{Plain, Number, Frames, Flag, Gain}
@@ -32,7 +34,8 @@ abbrev pub word_data : Kind → List ℕ → Data
 word_data Plain w = text_data w
 word_data Number w = counted_data (number_of w) w
 word_data Frames w = counted_data (number_of w) w
-word_data Flag w = if bytes_eq w (codes "on") then boolean true else if bytes_eq w (codes "off") then boolean false else text_data w
+word_data Flag w = if bytes_eq w (codes "on") then boolean true else if bytes_eq w (codes "off")
+    then boolean false else text_data w
 word_data Gain w = text_data w
 
 abbrev pub items_data : Kind → List (List ℕ) → Items

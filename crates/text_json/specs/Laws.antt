@@ -19,22 +19,29 @@ pub record LinesAreKept : Type 0 where
 
 -- A text of which each word is said as it is stays as it is.
 pub record TextsStay : Type 0 where
-  pub printed : (say : Kind → List ℕ → List ℕ) (text : List ℕ) → ((kind : Kind) (w : List ℕ) → say kind w ≡ w) → said_text say parts text ≡ text
-  pub scripts : (say : Kind → List ℕ → List ℕ) (text : List ℕ) → ((kind : Kind) (w : List ℕ) → say kind w ≡ w) → said_text say script_parts text ≡ text
+  pub printed : (say : Kind → List ℕ → List ℕ) (text : List ℕ)
+      → ((kind : Kind) (w : List ℕ) → say kind w ≡ w) → said_text say parts text ≡ text
+  pub scripts : (say : Kind → List ℕ → List ℕ) (text : List ℕ)
+      → ((kind : Kind) (w : List ℕ) → say kind w ≡ w) → said_text say script_parts text ≡ text
 
 -- A number is read from its decimal spelling and from no other word.
 abbrev pub NumbersAreSpelled : Type 0
-NumbersAreSpelled = (n : ℕ) (word : List ℕ) → (number_of word ≡ Some n) ↔ ((n < 2 ^ 64) × (word ≡ decimal n))
+NumbersAreSpelled = (n : ℕ) (word : List ℕ) → (number_of word ≡ Some n)
+    ↔ ((n < 2 ^ 64) × (word ≡ decimal n))
 
--- A level is said as the fraction nearest to its amplitude, of those with a divisor from 1 to 1000 and a number up to 65,535, and no other word is.
+-- A level is said as the fraction nearest to its amplitude, of those with a divisor from 1 to 1000
+-- and a number up to 65,535, and no other word is.
 abbrev pub LevelsAreNearest : Type 0
-LevelsAreNearest = (word : List ℕ) → MatchOption (amplitude_of word) (fraction word ≡ None) (λ amp. (f : Fraction) × (fraction word ≡ Some f) × IsNearest 1000 amp f)
+LevelsAreNearest = (word : List ℕ) → MatchOption (amplitude_of word) (fraction word ≡ None)
+    (λ amp. (f : Fraction) × (fraction word ≡ Some f) × IsNearest 1000 amp f)
 
--- the object that these members make, one after another: the last of one name stays, and they are read in the order of their names
+-- the object that these members make, one after another: the last of one name stays, and they are
+-- read in the order of their names
 abbrev pub put_all : Members → Members → Members
 put_all no_members found = found
 put_all (member k d ms) found = put_all ms (put k d found)
 
 -- The JSON of a line is read, as the object that its members make.
 abbrev pub ObjectsAreRead : Type 0
-ObjectsAreRead = (line : List ℕ) → read (compact_text (line_data line)) ≡ Some (object (put_all (members (parts line)) no_members))
+ObjectsAreRead = (line : List ℕ) → read (compact_text (line_data line))
+    ≡ Some (object (put_all (members (parts line)) no_members))

@@ -1,4 +1,5 @@
--- What is left of a line: no word, or the words of a text. It ties the code to the definitions, and is none of the subject.
+-- What is left of a line: no word, or the words of a text. It ties the code to the definitions, and
+-- is none of the subject.
 use Rattle.std.specs.Prelude.{ℕ, suc, List, [], length, Option, Some, None}
 use Rattle.std.specs.Borrow.{Bor}
 use Rattle.text_json.specs.Cutting.{words, pieces}

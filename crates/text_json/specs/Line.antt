@@ -1,5 +1,7 @@
--- A line, part by part (profile): which of its words are keys, and what those that stand behind say.
-use Rattle.std.specs.Prelude.{ℕ, zero, suc, List, [], ◌∷◌, ◌++◌, length, Option, Some, None, is_some, if◌then◌else◌, codes}
+-- A line, part by part (profile): which of its words are keys, and what those that stand behind
+-- say.
+use Rattle.std.specs.Prelude.{ℕ, zero, suc, List, [], ◌∷◌, ◌++◌, length, Option, Some, None}
+use Rattle.std.specs.Prelude.{is_some, if◌then◌else◌, codes}
 use Rattle.std.specs.List.{flat_map}
 use Rattle.std.specs.Str.{bytes_eq}
 use Rattle.text_json.specs.declared.slot.Kind.{Kind}
@@ -9,7 +11,8 @@ use Rattle.text_json.specs.declared.slot.Arity.TheVariants.{One, Two, Rest, All}
 use Rattle.text_json.specs.declared.slot.Name.TheVariants as name
 use Rattle.text_json.specs.declared.slot.Slot.{Slot}
 use Rattle.text_json.specs.Cutting.{words, spaced}
-use Rattle.text_json.specs.Table.{is_one_of, name_text, slot, plain, key_form, act_slots, signs, states, sides}
+use Rattle.text_json.specs.Table.{is_one_of, name_text, slot, plain, key_form, act_slots, signs}
+use Rattle.text_json.specs.Table.{states, sides}
 
 -- ---- what a part says
 
@@ -44,7 +47,8 @@ more_at (All kind) ws = length ws
 
 -- ---- how a word is read
 
--- What may come next in a line: its beginning, what follows a sign, what follows a stamp, an act, or these slots and then keys.
+-- What may come next in a line: its beginning, what follows a sign, what follows a stamp, an act,
+-- or these slots and then keys.
 pub data Pending : Type 0 where
   begin : Pending
   signed : Pending
@@ -52,7 +56,8 @@ pub data Pending : Type 0 where
   acting : Pending
   due : List Slot → Pending
 
--- the part that begins at a word, how many words it has behind that one, and what may come behind it
+-- the part that begins at a word, how many words it has behind that one, and what may come behind
+-- it
 pub record Reading : Type 0 where
   pub part : Part
   pub more : ℕ
@@ -60,18 +65,23 @@ pub record Reading : Type 0 where
 
 -- a word that begins what a slot takes
 abbrev pub slot_reading : Slot → Pending → List ℕ → List (List ℕ) → Reading
-slot_reading s next w ws = record { part = record { key = None; name = name_text s.name; value = value_at s.form w ws }; more = more_at s.form ws; pending = next }
+slot_reading s next w ws = record { part = record { key = None; name = name_text s.name; value =
+    value_at s.form w ws }; more = more_at s.form ws; pending = next }
 
 -- a word that stands alone
 abbrev pub alone_reading : List ℕ → Pending → Reading
-alone_reading w next = record { part = record { key = Some w; name = w; value = alone }; more = 0; pending = next }
+alone_reading w next = record { part = record { key = Some w; name = w; value = alone }; more = 0;
+    pending = next }
 
 -- a key before a value that is called so, or before the end of the line, where it stands alone
 abbrev pub key_reading : List ℕ → Arity → Pending → List ℕ → List (List ℕ) → Reading
 key_reading called form next w [] = alone_reading w next
-key_reading called form next w (v ∷ ws) = record { part = record { key = Some w; name = called; value = value_at form v ws }; more = suc (more_at form ws); pending = next }
+key_reading called form next w (v ∷ ws) = record { part = record
+    { key = Some w; name = called; value = value_at form v ws }; more = suc (more_at form ws);
+    pending = next }
 
--- a word where no slot is left: a key, which the value is called by, or a word that says nothing more
+-- a word where no slot is left: a key, which the value is called by, or a word that says nothing
+-- more
 abbrev pub formed_reading : Option Arity → List ℕ → List (List ℕ) → Reading
 formed_reading (Some form) w ws = key_reading w form (due []) w ws
 formed_reading None w ws = alone_reading w (due [])
@@ -96,9 +106,11 @@ first_reading w ws =
     else slot_reading (plain name.Stamp) stamped w ws
 
 abbrev pub reading : Pending → List ℕ → List (List ℕ) → Reading
-reading begin w ws = if is_one_of signs w then slot_reading (plain name.Sign) signed w ws else first_reading w ws
+reading begin w ws = if is_one_of signs w then slot_reading (plain name.Sign) signed w ws else
+    first_reading w ws
 reading signed w ws = first_reading w ws
-reading stamped w ws = if is_one_of states w then slot_reading (plain name.State) acting w ws else act_reading w ws
+reading stamped w ws = if is_one_of states w then slot_reading (plain name.State) acting w ws else
+    act_reading w ws
 reading acting w ws = act_reading w ws
 reading (due []) w ws = free_reading w ws
 reading (due (s ∷ slots)) w ws = slot_reading s (due slots) w ws
@@ -108,7 +120,8 @@ reading (due (s ∷ slots)) w ws = slot_reading s (due slots) w ws
 -- the parts of these words, of which the first so many were taken
 abbrev pub parts_from : ℕ → Pending → List (List ℕ) → List Part
 parts_from n p [] = []
-parts_from zero p (w ∷ ws) = (reading p w ws).part ∷ parts_from (reading p w ws).more (reading p w ws).pending ws
+parts_from zero p (w ∷ ws) = (reading p w ws).part
+    ∷ parts_from (reading p w ws).more (reading p w ws).pending ws
 parts_from (suc n) p (w ∷ ws) = parts_from n p ws
 
 -- the parts of what is left of a line
@@ -119,7 +132,8 @@ parts_of p ws = parts_from 0 p ws
 abbrev pub parts : List ℕ → List Part
 parts line = parts_of begin (words line)
 
--- What a line of a script may begin with: an act. One that begins otherwise, an empty line or a remark, is one part, whatever it says.
+-- What a line of a script may begin with: an act. One that begins otherwise, an empty line or a
+-- remark, is one part, whatever it says.
 abbrev pub script_pending : List (List ℕ) → Pending
 script_pending [] = acting
 script_pending (w ∷ ws) = if is_some (act_slots w) then acting else due (slot name.Line Rest ∷ [])

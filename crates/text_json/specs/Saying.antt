@@ -1,5 +1,6 @@
 -- Lines of which some words are said otherwise, and all else is as it was (profile).
-use Rattle.std.specs.Prelude.{ℕ, ◌+◌, ◌*◌, ◌/◌, ◌^◌, zero, suc, min, nat_lt, nat_le, List, ◌++◌, map, Option, Some, None, option_map, if◌then◌else◌, codes}
+use Rattle.std.specs.Prelude.{ℕ, ◌+◌, ◌*◌, ◌/◌, ◌^◌, zero, suc, min, nat_lt, nat_le, List, ◌++◌}
+use Rattle.std.specs.Prelude.{map, Option, Some, None, option_map, if◌then◌else◌, codes}
 use Rattle.std.specs.Fmt.{decimal}
 use Rattle.base_times.specs.declared.fraction.Fraction.{Fraction}
 use Rattle.base_times.specs.Decibels.{unit, amplitude_of}
@@ -9,7 +10,8 @@ use Rattle.base_times.specs.Times.{read_time}
 use Rattle.text_json.specs.declared.slot.Kind.{Kind}
 use Rattle.text_json.specs.declared.slot.Kind.TheVariants.{Plain, Number, Frames, Flag, Gain}
 use Rattle.text_json.specs.Cutting.{pieces, ended}
-use Rattle.text_json.specs.Line.{Value, alone, one, pair, rest, all, Part, parts, script_parts, line_of}
+use Rattle.text_json.specs.Line.{Value, alone, one, pair, rest, all, Part, parts, script_parts}
+use Rattle.text_json.specs.Line.{line_of}
 use Rattle.text_json.specs.Json.{number_of}
 
 -- ---- lines said otherwise
@@ -60,7 +62,8 @@ nearest_with amp den = record { num = min ((2 * (amp * den) + unit) / (2 * unit)
 
 -- the second, where it is nearer
 abbrev pub nearer_of : ℕ → Fraction → Fraction → Fraction
-nearer_of amp best other = if nat_lt (off amp other.num other.den * best.den) (off amp best.num best.den * other.den) then other else best
+nearer_of amp best other = if nat_lt (off amp other.num other.den * best.den)
+    (off amp best.num best.den * other.den) then other else best
 
 -- the nearest fraction with a divisor from 1 to n + 1
 unfoldable pub nearest_to : ℕ → ℕ → Fraction
@@ -80,7 +83,8 @@ abbrev pub gain_or_word : Option Fraction → List ℕ → List ℕ
 gain_or_word (Some f) w = decimal f.num ++ (codes "/" ++ decimal f.den)
 gain_or_word None w = w
 
--- A time as the frame that is nearest to it, decibels as the nearest gain, and every other word as it is.
+-- A time as the frame that is nearest to it, decibels as the nearest gain, and every other word as
+-- it is.
 abbrev pub plain_word : ℕ → Kind → List ℕ → List ℕ
 plain_word rate Plain w = w
 plain_word rate Number w = w

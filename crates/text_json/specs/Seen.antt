@@ -9,7 +9,8 @@ use Rattle.text_json.specs.declared.part.Pending.TheVariants as next
 use Rattle.text_json.specs.declared.part.Step.{Step}
 use Rattle.text_json.specs.Cutting.{words}
 use Rattle.text_json.specs.Left.{words_left}
-use Rattle.text_json.specs.Line.{Value, alone, one, pair, rest, all, Part, Pending, begin, signed, stamped, acting, due, Reading}
+use Rattle.text_json.specs.Line.{Value, alone, one, pair, rest, all, Part, Pending, begin, signed}
+use Rattle.text_json.specs.Line.{stamped, acting, due, Reading}
 
 abbrev pub value_of : CodeValue → Value
 value_of code.Alone = alone
@@ -19,7 +20,8 @@ value_of (code.Rest text) = rest text.now
 value_of (code.All kind text) = all kind (words text.now)
 
 abbrev pub part_of : CodePart → Part
-part_of p = record { key = option_map (λ w. w.now) p.key; name = p.name.now; value = value_of p.value }
+part_of p = record { key = option_map (λ w. w.now) p.key; name = p.name.now; value = value_of
+    p.value }
 
 abbrev pub pending_of : CodePending → Pending
 pending_of next.Begin = begin

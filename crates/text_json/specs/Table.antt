@@ -1,5 +1,7 @@
--- What the words of lines announce: the keys, the acts and their slots (profile). The lines are those of `docs/formats.md`.
-use Rattle.std.specs.Prelude.{ℕ, Bool, true, false, List, [], ◌∷◌, Option, Some, None, if◌then◌else◌, codes}
+-- What the words of lines announce: the keys, the acts and their slots (profile). The lines are
+-- those of `docs/formats.md`.
+use Rattle.std.specs.Prelude.{ℕ, Bool, true, false, List, [], ◌∷◌, Option, Some, None}
+use Rattle.std.specs.Prelude.{if◌then◌else◌, codes}
 use Rattle.std.specs.Str.{bytes_eq}
 use Rattle.text_json.specs.declared.slot.Kind.TheVariants.{Plain, Number, Frames, Flag, Gain}
 use Rattle.text_json.specs.declared.slot.Arity.{Arity}
@@ -18,31 +20,37 @@ is_one_of (w ∷ ws) word = if bytes_eq word w then true else is_one_of ws word
 -- before a stamp, a digest or the name of a kind of thing
 abbrev pub plain_keys : List (List ℕ)
 plain_keys =
-    codes "track" ∷ codes "clip" ∷ codes "marker" ∷ codes "place" ∷ codes "source" ∷ codes "digest" ∷ []
+    codes "track" ∷ codes "clip" ∷ codes "marker" ∷ codes "place" ∷ codes "source" ∷ codes "digest"
+        ∷ []
 
 -- the same, of what is found
 abbrev pub finding_keys : List (List ℕ)
 finding_keys =
-    codes "unused" ∷ codes "needs" ∷ codes "covered" ∷ codes "past-end" ∷ codes "one-channel" ∷ codes "behind" ∷ []
+    codes "unused" ∷ codes "needs" ∷ codes "covered" ∷ codes "past-end" ∷ codes "one-channel"
+        ∷ codes "behind" ∷ []
 
 -- before a position or a length in frames
 abbrev pub frames_keys : List (List ℕ)
-frames_keys = codes "at" ∷ codes "offset" ∷ codes "len" ∷ codes "end" ∷ codes "frames" ∷ codes "time-reference" ∷ []
+frames_keys = codes "at" ∷ codes "offset" ∷ codes "len" ∷ codes "end" ∷ codes "frames"
+    ∷ codes "time-reference" ∷ []
 
 -- before a number: of operations, of clips and of what is wrong
 abbrev pub count_keys : List (List ℕ)
 count_keys =
-    codes "held" ∷ codes "operations" ∷ codes "warnings" ∷ codes "clips" ∷ codes "audible" ∷ codes "refused" ∷ codes "missing" ∷ []
+    codes "held" ∷ codes "operations" ∷ codes "warnings" ∷ codes "clips" ∷ codes "audible"
+        ∷ codes "refused" ∷ codes "missing" ∷ []
 
 -- before a number: of two logs, and of a recording
 abbrev pub number_keys : List (List ℕ)
 number_keys =
-    codes "left" ∷ codes "right" ∷ codes "both" ∷ codes "clashes" ∷ codes "rate" ∷ codes "channels" ∷ codes "bits" ∷ codes "bext" ∷ codes "cue" ∷ []
+    codes "left" ∷ codes "right" ∷ codes "both" ∷ codes "clashes" ∷ codes "rate" ∷ codes "channels"
+        ∷ codes "bits" ∷ codes "bext" ∷ codes "cue" ∷ []
 
 -- before a text that goes up to the end of the line
 abbrev pub rest_keys : List (List ℕ)
 rest_keys =
-    codes "title" ∷ codes "label" ∷ codes "description" ∷ codes "originator" ∷ codes "reference" ∷ codes "date" ∷ codes "time" ∷ codes "history" ∷ codes "file" ∷ []
+    codes "title" ∷ codes "label" ∷ codes "description" ∷ codes "originator" ∷ codes "reference"
+        ∷ codes "date" ∷ codes "time" ∷ codes "history" ∷ codes "file" ∷ []
 
 -- what follows a key that has a form of its own
 abbrev pub single_form : List ℕ → Option Arity
@@ -108,7 +116,8 @@ abbrev pub acts : List (List ℕ × List Slot)
 acts =
     (codes "add-track", plain name.After ∷ title ∷ []) ∷
     (codes "move-track", plain name.Track ∷ plain name.After ∷ []) ∷
-    (codes "add-clip", plain name.Source ∷ plain name.Track ∷ frames name.At ∷ frames name.Offset ∷ frames name.Len ∷ []) ∷
+    (codes "add-clip", plain name.Source ∷ plain name.Track ∷ frames name.At ∷ frames name.Offset
+        ∷ frames name.Len ∷ []) ∷
     (codes "move-clip", plain name.Clip ∷ plain name.Track ∷ frames name.At ∷ []) ∷
     (codes "trim-clip", plain name.Clip ∷ frames name.Offset ∷ frames name.Len ∷ []) ∷
     (codes "gain", plain name.Item ∷ slot name.Gain (One Gain) ∷ []) ∷

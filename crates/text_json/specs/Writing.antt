@@ -20,7 +20,8 @@ item_text later d = comma_if later ++ compact_text d
 
 -- the same of a member
 abbrev pub member_text : Bool → Part → List ℕ
-member_text later p = comma_if later ++ (compact_text (string (called p.name)) ++ 58 ∷ compact_text (value_data p.value))
+member_text later p = comma_if later ++ (compact_text (string (called p.name)) ++ 58
+    ∷ compact_text (value_data p.value))
 
 -- ---- lines said otherwise
 
@@ -67,7 +68,8 @@ piece_text telling rate later line = newline_if later ++ line_by telling rate li
 
 abbrev pub pieces_text : Telling → ℕ → Bool → List (List ℕ) → List ℕ
 pieces_text telling rate later [] = []
-pieces_text telling rate later (line ∷ ls) = piece_text telling rate later line ++ pieces_text telling rate true ls
+pieces_text telling rate later (line ∷ ls) = piece_text telling rate later line
+    ++ pieces_text telling rate true ls
 
 abbrev pub text_by : Telling → ℕ → List ℕ → List ℕ
 text_by telling rate text = said_text (said_word telling rate) (parts_by telling) text

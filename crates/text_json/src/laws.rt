@@ -1,8 +1,10 @@
 //! What holds of lines, and of what is said of them, as the contracts of functions.
 
-ghost use Rattle.text_json.specs.Laws.{LinesAreKept, TextsStay, NumbersAreSpelled, LevelsAreNearest, ObjectsAreRead};
+ghost use Rattle.text_json.specs.Laws.{LinesAreKept, TextsStay, NumbersAreSpelled};
+ghost use Rattle.text_json.specs.Laws.{LevelsAreNearest, ObjectsAreRead};
 
-/// Nothing of a line is lost: the words of its parts, with one space between each two, are the line.
+/// Nothing of a line is lost: the words of its parts, with one space between each two, are the
+/// line.
 pub fn lines_kept()
     ensures { LinesAreKept }
 {}
@@ -12,7 +14,8 @@ pub fn texts_stay()
     ensures { TextsStay }
 {}
 
-/// A number is read from its decimal spelling, with no sign and no leading zero, and from no other word.
+/// A number is read from its decimal spelling, with no sign and no leading zero, and from no other
+/// word.
 pub fn numbers()
     ensures { NumbersAreSpelled }
 {}

@@ -4,7 +4,8 @@ ghost use Rattle.std.specs.Prelude.{◌≡◌, ◌++◌, ◌∷◌, [], true, fa
 ghost use Rattle.serde_json.specs.Data.{string, array};
 ghost use Rattle.serde_json.specs.Written.{compact_text, items_text};
 ghost use Rattle.text_json.specs.Cutting.{words};
-ghost use Rattle.text_json.specs.Json.{text_data, word_data, items_data, value_data, called, line_data, json_line, json_text};
+ghost use Rattle.text_json.specs.Json.{text_data, word_data, items_data, value_data, called};
+ghost use Rattle.text_json.specs.Json.{line_data, json_line, json_text};
 ghost use Rattle.text_json.specs.Seen.{value_of, part_of};
 ghost use Rattle.text_json.specs.Writing.{item_text, member_text};
 
@@ -36,7 +37,8 @@ fn append_text(alloc: Global, json: &mut Vec<u8>, text: &[u8]) -> Result<(), All
 
 // Writes what a member is called.
 fn append_name(alloc: Global, json: &mut Vec<u8>, name: &[u8]) -> Result<(), AllocError>
-    ensures { OnOk result (json.new.items ≡ json.old.items ++ compact_text (string (called name.now))) }
+    ensures { OnOk result (json.new.items ≡ json.old.items
+        ++ compact_text (string (called name.now))) }
 {
     match str::from_utf8(name) {
         Ok(name) => append_quoted(alloc, json, name),
@@ -46,7 +48,8 @@ fn append_name(alloc: Global, json: &mut Vec<u8>, name: &[u8]) -> Result<(), All
 
 // Writes a number, and the text where it spells none.
 fn append_number(alloc: Global, json: &mut Vec<u8>, word: &[u8]) -> Result<(), AllocError>
-    ensures { OnOk result (json.new.items ≡ json.old.items ++ compact_text (word_data Kind.Number word.now)) }
+    ensures { OnOk result (json.new.items ≡ json.old.items
+        ++ compact_text (word_data Kind.Number word.now)) }
 {
     if number_of(word).is_some() {
         json.extend_from_slice(word)
@@ -57,7 +60,8 @@ fn append_number(alloc: Global, json: &mut Vec<u8>, word: &[u8]) -> Result<(), A
 
 // Writes whether a switch is on, and the text where it says neither.
 fn append_flag(alloc: Global, json: &mut Vec<u8>, word: &[u8]) -> Result<(), AllocError>
-    ensures { OnOk result (json.new.items ≡ json.old.items ++ compact_text (word_data Kind.Flag word.now)) }
+    ensures { OnOk result (json.new.items ≡ json.old.items
+        ++ compact_text (word_data Kind.Flag word.now)) }
 {
     if word == b"on".as_slice() {
         return json.extend_from_slice(b"true");
@@ -70,7 +74,8 @@ fn append_flag(alloc: Global, json: &mut Vec<u8>, word: &[u8]) -> Result<(), All
 
 // Writes what a word says.
 fn append_word(alloc: Global, json: &mut Vec<u8>, kind: Kind, word: &[u8]) -> Result<(), AllocError>
-    ensures { OnOk result (json.new.items ≡ json.old.items ++ compact_text (word_data kind word.now)) }
+    ensures { OnOk result (json.new.items ≡ json.old.items
+        ++ compact_text (word_data kind word.now)) }
 {
     match kind {
         Kind::Plain | Kind::Gain => append_text(alloc, json, word),
@@ -87,7 +92,8 @@ fn append_item(
     kind: Kind,
     word: &[u8],
 ) -> Result<(), AllocError>
-    ensures { OnOk result (json.new.items ≡ json.old.items ++ item_text later (word_data kind word.now)) }
+    ensures { OnOk result (json.new.items ≡ json.old.items
+        ++ item_text later (word_data kind word.now)) }
 {
     if later {
         json.extend_from_slice(b",")?;
@@ -131,7 +137,8 @@ fn append_all(alloc: Global, json: &mut Vec<u8>, kind: Kind, text: &[u8]) -> Res
 
 // Writes what a part says.
 fn append_value(alloc: Global, json: &mut Vec<u8>, value: Value) -> Result<(), AllocError>
-    ensures { OnOk result (json.new.items ≡ json.old.items ++ compact_text (value_data (value_of value.entry))) }
+    ensures { OnOk result (json.new.items ≡ json.old.items
+        ++ compact_text (value_data (value_of value.entry))) }
 {
     match value {
         Value::Alone => json.extend_from_slice(b"true"),
@@ -149,7 +156,8 @@ fn append_member(
     later: bool,
     part: Part,
 ) -> Result<(), AllocError>
-    ensures { OnOk result (json.new.items ≡ json.old.items ++ member_text later (part_of part.entry)) }
+    ensures { OnOk result (json.new.items ≡ json.old.items
+        ++ member_text later (part_of part.entry)) }
 {
     if later {
         json.extend_from_slice(b",")?;
@@ -187,11 +195,11 @@ fn append_line(alloc: Global, json: &mut Vec<u8>, line: &[u8]) -> Result<(), All
 
 /// The lines of a text as JSON, an object and a line feed for each.
 ///
-/// The text is one that `radio` prints; the page on output says how its lines are read, and a last line
-/// feed ends the last one. The members of an object are in the order of the line, each called as its
-/// key or its slot is. Numbers, positions and lengths are numbers, `on` and `off` true and false, fades
-/// and tags arrays, a key that nothing follows true, all else strings, and what is no UTF-8 null. In
-/// time linear in the text. Fails where memory runs out.
+/// The text is one that `radio` prints; the page on output says how its lines are read, and a last
+/// line feed ends the last one. The members of an object are in the order of the line, each called
+/// as its key or its slot is. Numbers, positions and lengths are numbers, `on` and `off` true and
+/// false, fades and tags arrays, a key that nothing follows true, all else strings, and what is no
+/// UTF-8 null. In time linear in the text. Fails where memory runs out.
 pub fn json_text(alloc: Global, text: &[u8]) -> Result<Vec<u8>, AllocError>
     ensures { IfOk result (λ json. json.items ≡ json_text text.now) }
 {

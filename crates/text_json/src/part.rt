@@ -3,7 +3,9 @@
 ghost use Rattle.std.specs.Prelude.{◌≡◌, ◌∷◌, ◌≤◌, [], length, drop};
 ghost use Rattle.std.specs.Option.{option_map};
 ghost use Rattle.text_json.specs.Left.{words_left, length_left};
-ghost use Rattle.text_json.specs.Line.{value_at, more_at, due, slot_reading, alone_reading, key_reading, free_reading, act_reading, first_reading, reading, stamped, acting};
+ghost use Rattle.text_json.specs.Line.{value_at, more_at, due, slot_reading, alone_reading};
+ghost use Rattle.text_json.specs.Line.{key_reading, free_reading, act_reading, first_reading};
+ghost use Rattle.text_json.specs.Line.{reading, stamped, acting};
 ghost use Rattle.text_json.specs.Table.{plain};
 ghost use Rattle.text_json.specs.Seen.{value_of, pending_of, IsRead};
 
@@ -21,7 +23,8 @@ pub(crate) enum Value<'a> {
     All(Kind, &'a [u8]),
 }
 
-/// A part of a line: the key before its value, if there is one, what the value is called, and the value.
+/// A part of a line: the key before its value, if there is one, what the value is called, and the
+/// value.
 #[derive(Clone, Copy)]
 pub(crate) struct Part<'a> {
     pub(crate) key: Option<&'a [u8]>,
@@ -49,7 +52,8 @@ pub(crate) struct Step<'a> {
 
 // What two words say, or the one that is left.
 fn take_two<'a>(kind: Kind, cut: Cut<'a>) -> (Value<'a>, Option<&'a [u8]>)
-    ensures value { value_of result.0 ≡ value_at (Arity.Two kind) cut.entry.word.now (words_left cut.entry.left) }
+    ensures value { value_of result.0 ≡ value_at (Arity.Two kind) cut.entry.word.now
+        (words_left cut.entry.left) }
     ensures left { words_left result.1 ≡ drop 1 (words_left cut.entry.left) }
     ensures shorter { length_left result.1 ≤ length cut.entry.text.now }
 {
@@ -64,8 +68,10 @@ fn take_two<'a>(kind: Kind, cut: Cut<'a>) -> (Value<'a>, Option<&'a [u8]>)
 
 // What a slot of this form says at a word, and what is left.
 fn take<'a>(form: Arity, cut: Cut<'a>) -> (Value<'a>, Option<&'a [u8]>)
-    ensures value { value_of result.0 ≡ value_at form cut.entry.word.now (words_left cut.entry.left) }
-    ensures left { words_left result.1 ≡ drop (more_at form (words_left cut.entry.left)) (words_left cut.entry.left) }
+    ensures value { value_of result.0 ≡ value_at form cut.entry.word.now (words_left cut.entry.left)
+        }
+    ensures left { words_left result.1 ≡ drop (more_at form (words_left cut.entry.left))
+        (words_left cut.entry.left) }
     ensures shorter { length_left result.1 ≤ length cut.entry.text.now }
 {
     match form {

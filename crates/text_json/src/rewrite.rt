@@ -5,7 +5,8 @@ ghost use Rattle.text_json.specs.Cutting.{words};
 ghost use Rattle.text_json.specs.Line.{value_words, part_words};
 ghost use Rattle.text_json.specs.Saying.{said_value, said_part, plain_script, timed_text};
 ghost use Rattle.text_json.specs.Seen.{value_of, part_of};
-ghost use Rattle.text_json.specs.Writing.{word_text, words_text, said_word, line_by, piece_text, text_by};
+ghost use Rattle.text_json.specs.Writing.{word_text, words_text, said_word, line_by, piece_text};
+ghost use Rattle.text_json.specs.Writing.{text_by};
 
 use crate::cut::{cut_piece, cut_word};
 use crate::part::{Part, Value, read_word};
@@ -37,7 +38,8 @@ fn append_said<A: Allocator>(
     word: &[u8],
 ) -> Result<(), AllocError>
     requires { 1 ≤ rate }
-    ensures { OnOk result (text.new.items ≡ text.old.items ++ word_text later (said_word telling rate kind word.now)) }
+    ensures { OnOk result (text.new.items ≡ text.old.items
+        ++ word_text later (said_word telling rate kind word.now)) }
 {
     if later {
         text.extend_from_slice(b" ")?;
@@ -146,7 +148,8 @@ fn append_piece<A: Allocator>(
     line: &[u8],
 ) -> Result<(), AllocError>
     requires { 1 ≤ rate }
-    ensures { OnOk result (text.new.items ≡ text.old.items ++ piece_text telling rate later line.now) }
+    ensures { OnOk result (text.new.items ≡ text.old.items
+        ++ piece_text telling rate later line.now) }
 {
     if later {
         text.extend_from_slice(b"\n")?;
@@ -178,10 +181,10 @@ fn rewritten<A: Allocator>(
 
 /// The lines of a text with times in the place of frames.
 ///
-/// The text is one that `radio` prints. Each position and length in it that is a decimal number up to
-/// 2^50 becomes the time that so many frames last at `rate` frames a second, 1 and more, as
-/// `H:MM:SS.mmm`, rounded down; all else is as it was, and so are the line feeds. In time linear in the
-/// text. Fails where memory runs out.
+/// The text is one that `radio` prints. Each position and length in it that is a decimal number up
+/// to 2^50 becomes the time that so many frames last at `rate` frames a second, 1 and more, as
+/// `H:MM:SS.mmm`, rounded down; all else is as it was, and so are the line feeds. In time linear in
+/// the text. Fails where memory runs out.
 pub fn timed_text<A: Allocator>(alloc: A, rate: u32, text: &[u8]) -> Result<Vec<u8, A>, AllocError>
     requires { 1 ≤ rate }
     ensures { IfOk result (λ timed. timed.items ≡ timed_text rate text.now) }
@@ -191,9 +194,11 @@ pub fn timed_text<A: Allocator>(alloc: A, rate: u32, text: &[u8]) -> Result<Vec<
 
 /// A script with frames in the place of times, and fractions in the place of decibels.
 ///
-/// Each position and length in a line of the script that is a time (`H:MM:SS`, `H:MM:SS.f`, `Ss` or `S.fs`) is the frame that is nearest to it at `rate` frames a second, 1 and
-/// more, and each gain that is a level (`-6dB`) the nearest `NUM/DEN`; all else is as it was, and so are the line feeds. What is neither a number nor a time stays, for who reads the script to
-/// refuse in the same line. In time linear in the script.
+/// Each position and length in a line of the script that is a time (`H:MM:SS`, `H:MM:SS.f`, `Ss` or
+/// `S.fs`) is the frame that is nearest to it at `rate` frames a second, 1 and more, and each gain
+/// that is a level (`-6dB`) the nearest `NUM/DEN`; all else is as it was, and so are the line
+/// feeds. What is neither a number nor a time stays, for who reads the script to refuse in the same
+/// line. In time linear in the script.
 ///
 /// An error where an allocation failed.
 pub fn with_frames<A: Allocator>(

@@ -2,7 +2,9 @@
 
 ghost use Rattle.std.specs.Prelude.{◌≡◌};
 ghost use Rattle.std.specs.Option.{option_map};
-ghost use Rattle.text_json.specs.Table.{is_one_of, plain_keys, finding_keys, frames_keys, count_keys, number_keys, rest_keys, single_form, key_form, name_text, act_slots, signs, states, sides};
+ghost use Rattle.text_json.specs.Table.{is_one_of, plain_keys, finding_keys, frames_keys};
+ghost use Rattle.text_json.specs.Table.{count_keys, number_keys, rest_keys, single_form, key_form};
+ghost use Rattle.text_json.specs.Table.{name_text, act_slots, signs, states, sides};
 
 use crate::slot::{Arity, Kind, Name, Slot};
 

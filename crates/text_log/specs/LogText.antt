@@ -1,5 +1,7 @@
--- How a log is written (profile): a line for each operation, by rising stamp, and one for how many there are.
-use Rattle.std.specs.Prelude.{ℕ, Bool, List, [], ◌∷◌, ◌++◌, codes, length, Option, Some, None, if◌then◌else◌}
+-- How a log is written (profile): a line for each operation, by rising stamp, and one for how many
+-- there are.
+use Rattle.std.specs.Prelude.{ℕ, Bool, List, [], ◌∷◌, ◌++◌, codes, length, Option, Some, None}
+use Rattle.std.specs.Prelude.{if◌then◌else◌}
 use Rattle.std.specs.Fmt.{decimal}
 use Rattle.std.specs.List.{flat_map}
 use Rattle.mt_stamp.specs.StampOrder.{Stamp}
@@ -9,7 +11,9 @@ use Rattle.mt_op.specs.ByStamp.{op_cmp}
 use Rattle.mt_op.specs.Digest.{digest_text}
 use Rattle.mt_op.specs.Gain.{Gain}
 use Rattle.mt_op.specs.Needs.{needs, meets, clock_of}
-use Rattle.mt_op.specs.OpValue.{Body, AddTrack, MoveTrack, AddClip, MoveClip, TrimClip, SetGain, SetMute, Remove, Restore, AddMarker, MoveMarker, Retitle, SetFade, SetMarkerLength, Op}
+use Rattle.mt_op.specs.OpValue.{Body, AddTrack, MoveTrack, AddClip, MoveClip, TrimClip, SetGain}
+use Rattle.mt_op.specs.OpValue.{SetMute, Remove, Restore, AddMarker, MoveMarker, Retitle, SetFade}
+use Rattle.mt_op.specs.OpValue.{SetMarkerLength, Op}
 use Rattle.mt_op.specs.Ready.{is_ready}
 use Rattle.mt_sessionview.specs.SessionText.{newline}
 
@@ -35,23 +39,30 @@ gain_word gain = number_word gain.num ++ (codes "/" ++ decimal gain.den)
 abbrev pub switch_word : Bool → List ℕ
 switch_word on = if on then codes " on" else codes " off"
 
--- What an operation does, in the words of a script. A title is what follows the one space after the word before it, and may be empty.
+-- What an operation does, in the words of a script. A title is what follows the one space after the
+-- word before it, and may be empty.
 abbrev pub act_text : Body → List ℕ
 act_text (AddTrack after title) = codes "add-track" ++ (after_word after ++ word title)
 act_text (MoveTrack track after) = codes "move-track" ++ (stamp_word track ++ after_word after)
 act_text (AddClip source track at offset len) =
-    codes "add-clip" ++ (word (digest_text source) ++ (stamp_word track ++ (number_word at ++ (number_word offset ++ number_word len))))
-act_text (MoveClip clip track at) = codes "move-clip" ++ (stamp_word clip ++ (stamp_word track ++ number_word at))
-act_text (TrimClip clip offset len) = codes "trim-clip" ++ (stamp_word clip ++ (number_word offset ++ number_word len))
+    codes "add-clip" ++ (word (digest_text source) ++ (stamp_word track
+        ++ (number_word at ++ (number_word offset ++ number_word len))))
+act_text (MoveClip clip track at) = codes "move-clip"
+    ++ (stamp_word clip ++ (stamp_word track ++ number_word at))
+act_text (TrimClip clip offset len) = codes "trim-clip"
+    ++ (stamp_word clip ++ (number_word offset ++ number_word len))
 act_text (SetGain item gain) = codes "gain" ++ (stamp_word item ++ gain_word gain)
 act_text (SetMute item on) = codes "mute" ++ (stamp_word item ++ switch_word on)
-act_text (Remove item tags) = codes "remove" ++ (stamp_word item ++ (codes " tags" ++ flat_map stamp_word tags))
+act_text (Remove item tags) = codes "remove" ++ (stamp_word item
+    ++ (codes " tags" ++ flat_map stamp_word tags))
 act_text (Restore item) = codes "restore" ++ stamp_word item
 act_text (AddMarker at title) = codes "add-marker" ++ (number_word at ++ word title)
 act_text (MoveMarker marker at) = codes "move-marker" ++ (stamp_word marker ++ number_word at)
 act_text (Retitle item title) = codes "retitle" ++ (stamp_word item ++ word title)
-act_text (SetFade clip fade_in fade_out) = codes "fade" ++ (stamp_word clip ++ (number_word fade_in ++ number_word fade_out))
-act_text (SetMarkerLength marker len) = codes "marker-length" ++ (stamp_word marker ++ number_word len)
+act_text (SetFade clip fade_in fade_out) = codes "fade"
+    ++ (stamp_word clip ++ (number_word fade_in ++ number_word fade_out))
+act_text (SetMarkerLength marker len) = codes "marker-length"
+    ++ (stamp_word marker ++ number_word len)
 
 -- whether an operation is ready, or held until what it needs is there
 abbrev pub status_text : Bool → List ℕ

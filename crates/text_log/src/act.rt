@@ -4,7 +4,9 @@ ghost use Rattle.std.specs.Prelude.{◌≡◌, ◌++◌, OnOk, codes};
 ghost use Rattle.std.specs.List.{flat_map};
 ghost use Rattle.std.specs.String.{string_bytes};
 ghost use Rattle.mt_op.specs.Bodies.{act_of};
-ghost use Rattle.mt_op.specs.OpValue.{AddTrack, MoveTrack, AddClip, MoveClip, TrimClip, SetGain, SetMute, Remove, AddMarker, MoveMarker, Retitle, SetFade, SetMarkerLength};
+ghost use Rattle.mt_op.specs.OpValue.{AddTrack, MoveTrack, AddClip, MoveClip, TrimClip, SetGain};
+ghost use Rattle.mt_op.specs.OpValue.{SetMute, Remove, AddMarker, MoveMarker, Retitle, SetFade};
+ghost use Rattle.mt_op.specs.OpValue.{SetMarkerLength};
 ghost use Rattle.text_log.specs.LogText.{stamp_word, after_word, gain_word, switch_word, act_text};
 
 use base_text::{append_number, append_word};
@@ -39,7 +41,8 @@ fn append_switch<A: Allocator>(text: &mut String<A>, on: bool) -> Result<(), All
 }
 
 fn append_stamps<A: Allocator>(text: &mut String<A>, stamps: &[Stamp]) -> Result<(), AllocError>
-    ensures { OnOk result (string_bytes text.new ≡ string_bytes text.old ++ flat_map stamp_word stamps.now) }
+    ensures { OnOk result (string_bytes text.new ≡ string_bytes text.old
+        ++ flat_map stamp_word stamps.now) }
 {
     for stamp in stamps {
         append_stamp(text, " ", *stamp)?;
@@ -52,7 +55,8 @@ fn append_add_track<A: Allocator>(
     after: Option<Stamp>,
     title: &str,
 ) -> Result<(), AllocError>
-    ensures { OnOk result (string_bytes text.new ≡ string_bytes text.old ++ act_text (AddTrack after title.now)) }
+    ensures { OnOk result (string_bytes text.new ≡ string_bytes text.old
+        ++ act_text (AddTrack after title.now)) }
 {
     text.push_str("add-track")?;
     append_after(text, after)?;
@@ -64,7 +68,8 @@ fn append_move_track<A: Allocator>(
     track: Stamp,
     after: Option<Stamp>,
 ) -> Result<(), AllocError>
-    ensures { OnOk result (string_bytes text.new ≡ string_bytes text.old ++ act_text (MoveTrack track after)) }
+    ensures { OnOk result (string_bytes text.new ≡ string_bytes text.old
+        ++ act_text (MoveTrack track after)) }
 {
     text.push_str("move-track")?;
     append_stamp(text, " ", track)?;
@@ -80,7 +85,8 @@ fn append_add_clip<A: Allocator, B: Allocator>(
     offset: u32,
     len: u32,
 ) -> Result<(), AllocError>
-    ensures { OnOk result (string_bytes text.new ≡ string_bytes text.old ++ act_text (AddClip source track at offset len)) }
+    ensures { OnOk result (string_bytes text.new ≡ string_bytes text.old
+        ++ act_text (AddClip source track at offset len)) }
 {
     text.push_str("add-clip")?;
     append_digest(alloc, text, " ", source)?;
@@ -96,7 +102,8 @@ fn append_move_clip<A: Allocator>(
     track: Stamp,
     at: u32,
 ) -> Result<(), AllocError>
-    ensures { OnOk result (string_bytes text.new ≡ string_bytes text.old ++ act_text (MoveClip clip track at)) }
+    ensures { OnOk result (string_bytes text.new ≡ string_bytes text.old
+        ++ act_text (MoveClip clip track at)) }
 {
     text.push_str("move-clip")?;
     append_stamp(text, " ", clip)?;
@@ -110,7 +117,8 @@ fn append_trim_clip<A: Allocator>(
     offset: u32,
     len: u32,
 ) -> Result<(), AllocError>
-    ensures { OnOk result (string_bytes text.new ≡ string_bytes text.old ++ act_text (TrimClip clip offset len)) }
+    ensures { OnOk result (string_bytes text.new ≡ string_bytes text.old
+        ++ act_text (TrimClip clip offset len)) }
 {
     text.push_str("trim-clip")?;
     append_stamp(text, " ", clip)?;
@@ -123,7 +131,8 @@ fn append_set_gain<A: Allocator>(
     item: Stamp,
     gain: Gain,
 ) -> Result<(), AllocError>
-    ensures { OnOk result (string_bytes text.new ≡ string_bytes text.old ++ act_text (SetGain item gain)) }
+    ensures { OnOk result (string_bytes text.new ≡ string_bytes text.old
+        ++ act_text (SetGain item gain)) }
 {
     text.push_str("gain")?;
     append_stamp(text, " ", item)?;
@@ -135,7 +144,8 @@ fn append_set_mute<A: Allocator>(
     item: Stamp,
     on: bool,
 ) -> Result<(), AllocError>
-    ensures { OnOk result (string_bytes text.new ≡ string_bytes text.old ++ act_text (SetMute item on)) }
+    ensures { OnOk result (string_bytes text.new ≡ string_bytes text.old
+        ++ act_text (SetMute item on)) }
 {
     text.push_str("mute")?;
     append_stamp(text, " ", item)?;
@@ -147,7 +157,8 @@ fn append_remove<A: Allocator>(
     item: Stamp,
     tags: &[Stamp],
 ) -> Result<(), AllocError>
-    ensures { OnOk result (string_bytes text.new ≡ string_bytes text.old ++ act_text (Remove item tags.now)) }
+    ensures { OnOk result (string_bytes text.new ≡ string_bytes text.old
+        ++ act_text (Remove item tags.now)) }
 {
     text.push_str("remove")?;
     append_stamp(text, " ", item)?;
@@ -156,7 +167,8 @@ fn append_remove<A: Allocator>(
 }
 
 fn append_restore<A: Allocator>(text: &mut String<A>, item: Stamp) -> Result<(), AllocError>
-    ensures { OnOk result (string_bytes text.new ≡ string_bytes text.old ++ (codes "restore" ++ stamp_word item)) }
+    ensures { OnOk result (string_bytes text.new ≡ string_bytes text.old
+        ++ (codes "restore" ++ stamp_word item)) }
 {
     text.push_str("restore")?;
     append_stamp(text, " ", item)
@@ -167,7 +179,8 @@ fn append_add_marker<A: Allocator>(
     at: u32,
     title: &str,
 ) -> Result<(), AllocError>
-    ensures { OnOk result (string_bytes text.new ≡ string_bytes text.old ++ act_text (AddMarker at title.now)) }
+    ensures { OnOk result (string_bytes text.new ≡ string_bytes text.old
+        ++ act_text (AddMarker at title.now)) }
 {
     text.push_str("add-marker")?;
     append_number(text, " ", u64::from(at))?;
@@ -179,7 +192,8 @@ fn append_move_marker<A: Allocator>(
     marker: Stamp,
     at: u32,
 ) -> Result<(), AllocError>
-    ensures { OnOk result (string_bytes text.new ≡ string_bytes text.old ++ act_text (MoveMarker marker at)) }
+    ensures { OnOk result (string_bytes text.new ≡ string_bytes text.old
+        ++ act_text (MoveMarker marker at)) }
 {
     text.push_str("move-marker")?;
     append_stamp(text, " ", marker)?;
@@ -191,7 +205,8 @@ fn append_retitle<A: Allocator>(
     item: Stamp,
     title: &str,
 ) -> Result<(), AllocError>
-    ensures { OnOk result (string_bytes text.new ≡ string_bytes text.old ++ act_text (Retitle item title.now)) }
+    ensures { OnOk result (string_bytes text.new ≡ string_bytes text.old
+        ++ act_text (Retitle item title.now)) }
 {
     text.push_str("retitle")?;
     append_stamp(text, " ", item)?;
@@ -204,7 +219,8 @@ fn append_set_fade<A: Allocator>(
     fade_in: u32,
     fade_out: u32,
 ) -> Result<(), AllocError>
-    ensures { OnOk result (string_bytes text.new ≡ string_bytes text.old ++ act_text (SetFade clip fade_in fade_out)) }
+    ensures { OnOk result (string_bytes text.new ≡ string_bytes text.old
+        ++ act_text (SetFade clip fade_in fade_out)) }
 {
     text.push_str("fade")?;
     append_stamp(text, " ", clip)?;
@@ -217,21 +233,23 @@ fn append_set_marker_length<A: Allocator>(
     marker: Stamp,
     len: u32,
 ) -> Result<(), AllocError>
-    ensures { OnOk result (string_bytes text.new ≡ string_bytes text.old ++ act_text (SetMarkerLength marker len)) }
+    ensures { OnOk result (string_bytes text.new ≡ string_bytes text.old
+        ++ act_text (SetMarkerLength marker len)) }
 {
     text.push_str("marker-length")?;
     append_stamp(text, " ", marker)?;
     append_number(text, " ", u64::from(len))
 }
 
-/// Writes what an operation does after what `text` holds, in the words of a log's text. Refused only where an allocation failed; `text` then holds a part of
-/// these words behind what it held.
+/// Writes what an operation does after what `text` holds, in the words of a log's text. Refused
+/// only where an allocation failed; `text` then holds a part of these words behind what it held.
 pub fn append_act<A: Allocator, B: Allocator, C: Allocator>(
     alloc: &A,
     text: &mut String<B>,
     body: &Body<C>,
 ) -> Result<(), AllocError>
-    ensures { OnOk result (string_bytes text.new ≡ string_bytes text.old ++ act_text (act_of body.now)) }
+    ensures { OnOk result (string_bytes text.new ≡ string_bytes text.old
+        ++ act_text (act_of body.now)) }
 {
     match body {
         Body::AddTrack { after, title } => append_add_track(text, *after, title.text()),

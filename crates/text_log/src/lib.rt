@@ -24,9 +24,11 @@
 //! }
 //! ```
 //!
-//! Lines stand by rising stamp. Each tells the stamp, whether the operation is ready or held, and what it does in the words of the
-//! scripts that make edits, but for two things that only a log knows: the place that a track comes after is told by the stamp of that place, and
-//! a `remove` lists the tags that it removes. The last line counts the operations. `specs/LogText.antt` is the text.
+//! Lines stand by rising stamp. Each tells the stamp, whether the operation is ready or held, and
+//! what it does in the words of the scripts that make edits, but for two things that only a log
+//! knows: the place that a track comes after is told by the stamp of that place, and a `remove`
+//! lists the tags that it removes. The last line counts the operations. `specs/LogText.antt` is the
+//! text.
 #![tactic(auto)]
 
 mod act;

@@ -48,7 +48,8 @@ fn is_among(stamps: &[Stamp], stamp: Stamp) -> bool
     stamps.binary_search(&stamp).is_ok()
 }
 
-/// Writes the lines of these operations, in their order; those are ready whose stamps are among these, which rise.
+/// Writes the lines of these operations, in their order; those are ready whose stamps are among
+/// these, which rise.
 pub(crate) fn append_lines<A: Allocator, B: Allocator, C: Allocator>(
     alloc: &A,
     text: &mut String<B>,
@@ -56,7 +57,8 @@ pub(crate) fn append_lines<A: Allocator, B: Allocator, C: Allocator>(
     ready: &[Stamp],
 ) -> Result<(), AllocError>
     requires rise { Rises stamp_cmp ready.now }
-    ensures { OnOk result (string_bytes text.new ≡ string_bytes text.old ++ flat_map (λ o. line_of (is_listed ready.now o.stamp) o) (map (λ o. o.now) ops.now)) }
+    ensures { OnOk result (string_bytes text.new ≡ string_bytes text.old
+        ++ flat_map (λ o. line_of (is_listed ready.now o.stamp) o) (map (λ o. o.now) ops.now)) }
 {
     for op in ops {
         let is_ready = is_among(ready, op.stamp());

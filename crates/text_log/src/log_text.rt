@@ -16,7 +16,8 @@ fn append_log<A: Allocator + Clone, B: Allocator>(
     text: &mut String<B>,
     log: &Log<A>,
 ) -> Result<(), AllocError>
-    ensures { OnOk result (string_bytes text.new ≡ string_bytes text.old ++ log_text (operations log.now)) }
+    ensures { OnOk result (string_bytes text.new ≡ string_bytes text.old
+        ++ log_text (operations log.now)) }
 {
     // for the proof: that the dots of a log's operations differ
     let _ = log.runs();
@@ -29,9 +30,10 @@ fn append_log<A: Allocator + Clone, B: Allocator>(
     Ok(())
 }
 
-/// The operations of a log, a line each, by rising stamp: `STAMP ready` or `STAMP held`, and then what
-/// the operation does in the words of a script, with whole stamps for items, `head` or the stamp of the
-/// place for what a track comes after, and the tags that a `remove` removes. Last `operations N`.
+/// The operations of a log, a line each, by rising stamp: `STAMP ready` or `STAMP held`, and then
+/// what the operation does in the words of a script, with whole stamps for items, `head` or the
+/// stamp of the place for what a track comes after, and the tags that a `remove` removes. Last
+/// `operations N`.
 ///
 /// In a time of n log n for n operations and the tags that they list. Fails where memory runs out.
 pub fn operations_text<A: Allocator + Clone>(

@@ -1,4 +1,5 @@
--- Whose value is left where writes of one field are taken back, and whether an item is present: what the definitions compute.
+-- Whose value is left where writes of one field are taken back, and whether an item is present:
+-- what the definitions compute.
 use Rattle.std.specs.Prelude.{◌≡◌, Bool, true, false, [], ◌∷◌, Some, None, refl}
 use Rattle.mt_stamp.specs.StampOrder.{Stamp}
 use Rattle.mt_op.specs.OpValue.{Restore, MoveMarker}
@@ -16,11 +17,13 @@ third = record { clock = 3; replica = record { 0 = 11 }; seq = 1 }
 
 -- a move of the marker that was added first, after what another writer left
 abbrev pub moved : Stamp → Stamp → TakenBack
-moved own writer = record { op = record { stamp = own; act = MoveMarker first 5 }; ready = true; present = true; back = Some (record { writer = writer; value = MoveMarker first 4 }) }
+moved own writer = record { op = record { stamp = own; act = MoveMarker first 5 }; ready = true;
+    present = true; back = Some (record { writer = writer; value = MoveMarker first 4 }) }
 
 -- a restore of it, while it was present or absent
 abbrev pub restored : Stamp → Bool → TakenBack
-restored own present = record { op = record { stamp = own; act = Restore first }; ready = true; present = present; back = None }
+restored own present = record { op = record { stamp = own; act = Restore first }; ready = true;
+    present = present; back = None }
 
 -- none is taken back
 pub none_back : writer_left third [] ≡ third

@@ -7,7 +7,9 @@ use Rattle.text_revert.specs.Revert.{revert_text}
 
 -- Which stamps are listed decides, and neither their order nor how often each is.
 abbrev pub ListedAlone : Type 0
-ListedAlone = (log : LogMap) (one other : List Stamp) → ((stamp : Stamp) → is_listed one stamp ≡ is_listed other stamp) → revert_text log one ≡ revert_text log other
+ListedAlone = (log : LogMap) (one other : List Stamp)
+    → ((stamp : Stamp) → is_listed one stamp ≡ is_listed other stamp) → revert_text log one
+    ≡ revert_text log other
 
 -- Where none is, there is no line.
 abbrev pub NoneTakesNone : Type 0

@@ -1,6 +1,7 @@
--- The script that takes operations of a log back (profile): a line for each, the newest first, which writes again what stood before it, or a remark that tells
--- why no line does.
-use Rattle.std.specs.Prelude.{ℕ, Bool, true, false, not, ◌&&◌, List, [], ◌∷◌, ◌++◌, Option, Some, None, codes, if◌then◌else◌}
+-- The script that takes operations of a log back (profile): a line for each, the newest first,
+-- which writes again what stood before it, or a remark that tells why no line does.
+use Rattle.std.specs.Prelude.{ℕ, Bool, true, false, not, ◌&&◌, List, [], ◌∷◌, ◌++◌, Option, Some}
+use Rattle.std.specs.Prelude.{None, codes, if◌then◌else◌}
 use Rattle.std.specs.FinMap as fin
 use Rattle.std.specs.List.{find}
 use Rattle.std.specs.Option.{is_none}
@@ -34,7 +35,8 @@ changed_presence item t = t.ready && (is_none t.back && stamp_eq (op_item t.op.s
 -- whether an item is present: as before the first of these that changed that, and else as now
 abbrev pub is_there : List Op → List TakenBack → Stamp → Bool
 is_there ops [] item = is_present ops item
-is_there ops (t ∷ behind) item = if changed_presence item t then t.present else is_there ops behind item
+is_there ops (t ∷ behind) item = if changed_presence item t then t.present else is_there ops behind
+    item
 
 -- who wrote a field before this operation did
 abbrev pub writer_before : Stamp → Option (Written Body) → Stamp
@@ -56,12 +58,15 @@ writer_left writer (t ∷ behind) = left_before (writer_left writer behind) t
 abbrev pub waits : Stamp → List ℕ
 waits own = codes "# " ++ (stamp_text own ++ codes " waits: it changes nothing")
 
--- of an item that was present, or absent, and is now: `remove ITEM`, `restore ITEM`, or a remark where it is as it was
+-- of an item that was present, or absent, and is now: `remove ITEM`, `restore ITEM`, or a remark
+-- where it is as it was
 abbrev pub presence_line : (was is : Bool) → Stamp → List ℕ
-presence_line false false item = codes "# remove" ++ (stamp_word item ++ codes ": it is absent already")
+presence_line false false item = codes "# remove" ++
+    (stamp_word item ++ codes ": it is absent already")
 presence_line false true item = codes "remove" ++ stamp_word item
 presence_line true false item = codes "restore" ++ stamp_word item
-presence_line true true item = codes "# restore" ++ (stamp_word item ++ codes ": it is present already")
+presence_line true true item = codes "# restore" ++
+    (stamp_word item ++ codes ": it is present already")
 
 -- the track that a line names beside its item
 abbrev pub other_item : Body → Option Stamp
@@ -77,24 +82,31 @@ absent_other there (Some other) = if there other then None else Some other
 abbrev pub first_absent : (Stamp → Bool) → Stamp → Body → Option Stamp
 first_absent there item act = if there item then absent_other there (other_item act) else Some item
 
--- `ACT`; or `# ACT: ITEM is absent`, where an editor would refuse it; or `# ACT: STAMP has changed it since`, where it would take another's write back too
+-- `ACT`; or `# ACT: ITEM is absent`, where an editor would refuse it; or `# ACT: STAMP has changed
+-- it since`, where it would take another's write back too
 abbrev pub field_line : Body → Option Stamp → (own writer : Stamp) → List ℕ
-field_line act (Some absent) own writer = codes "# " ++ (act_text act ++ (codes ": " ++ (stamp_text absent ++ codes " is absent")))
+field_line act (Some absent) own writer = codes "# "
+    ++ (act_text act ++ (codes ": " ++ (stamp_text absent ++ codes " is absent")))
 field_line act None own writer =
-    if stamp_eq writer own then act_text act else codes "# " ++ (act_text act ++ (codes ": " ++ (stamp_text writer ++ codes " has changed it since")))
+    if stamp_eq writer own then act_text act else codes "# "
+        ++ (act_text act ++ (codes ": " ++ (stamp_text writer ++ codes " has changed it since")))
 
 -- the line of one that is ready: `last` is who wrote last to its field
-abbrev pub ready_line : List Op → List TakenBack → TakenBack → Stamp → Option (Written Body) → List ℕ
-ready_line ops behind t last None = presence_line t.present (is_there ops behind (op_item t.op.stamp t.op.act)) (op_item t.op.stamp t.op.act)
+abbrev pub ready_line : List Op → List TakenBack → TakenBack → Stamp → Option (Written Body)
+    → List ℕ
+ready_line ops behind t last None = presence_line t.present
+    (is_there ops behind (op_item t.op.stamp t.op.act)) (op_item t.op.stamp t.op.act)
 ready_line ops behind t last (Some back) =
-    field_line back.value (first_absent (is_there ops behind) (op_item t.op.stamp t.op.act) back.value) t.op.stamp (writer_left last behind)
+    field_line back.value (first_absent (is_there ops behind) (op_item t.op.stamp t.op.act)
+        back.value) t.op.stamp (writer_left last behind)
 
 -- who wrote last to the field that an operation writes
 abbrev pub last_writer : LogMap → List Op → Op → Stamp
 last_writer log ops o = writer_before o.stamp (standing log ops o.act)
 
 abbrev pub revert_words : LogMap → List Op → List TakenBack → TakenBack → List ℕ
-revert_words log ops behind t = if t.ready then ready_line ops behind t (last_writer log ops t.op) t.back else waits t.op.stamp
+revert_words log ops behind t = if t.ready then ready_line ops behind t (last_writer log ops t.op)
+    t.back else waits t.op.stamp
 
 abbrev pub revert_line : LogMap → List Op → List TakenBack → TakenBack → List ℕ
 revert_line log ops behind t = revert_words log ops behind t ++ newline ∷ []

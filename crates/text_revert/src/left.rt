@@ -2,7 +2,9 @@
 
 ghost use Rattle.std.specs.Prelude.{◌≡◌, IfOk};
 ghost use Rattle.mt_op.specs.Bodies.{act_of};
-ghost use Rattle.text_revert.specs.Revert.{changed_presence, is_there, writer_before, left_before, writer_left, other_item, absent_other, first_absent, last_writer};
+ghost use Rattle.text_revert.specs.Revert.{changed_presence, is_there, writer_before, left_before};
+ghost use Rattle.text_revert.specs.Revert.{writer_left, other_item, absent_other, first_absent};
+ghost use Rattle.text_revert.specs.Revert.{last_writer};
 
 use crate::standing::{StandingAct, standing};
 use crate::taken::TakenBack;

@@ -1,4 +1,5 @@
-//! The script that takes operations of a log back: what stood before each is written again, the newest first.
+//! The script that takes operations of a log back: what stood before each is written again, the
+//! newest first.
 //!
 //! ```rust
 //! use mt_op::{Body, Op, Title};
@@ -36,8 +37,9 @@
 //! }
 //! ```
 //!
-//! Each line is one of a script, or a remark, which begins with `# ` and tells why no line takes the operation back. `specs/Before.antt` is what stood before an
-//! operation, and `specs/Revert.antt` the text.
+//! Each line is one of a script, or a remark, which begins with `# ` and tells why no line takes
+//! the operation back. `specs/Before.antt` is what stood before an operation, and
+//! `specs/Revert.antt` the text.
 #![tactic(auto)]
 
 mod fault;

@@ -5,7 +5,8 @@ ghost use Rattle.std.specs.String.{string_bytes};
 ghost use Rattle.mt_stamp.specs.Texts.{stamp_text};
 ghost use Rattle.mt_op.specs.Bodies.{act_of};
 ghost use Rattle.text_log.specs.LogText.{act_text};
-ghost use Rattle.text_revert.specs.Revert.{waits, presence_line, field_line, ready_line, last_writer, revert_words, revert_line, revert_lines};
+ghost use Rattle.text_revert.specs.Revert.{waits, presence_line, field_line, ready_line};
+ghost use Rattle.text_revert.specs.Revert.{last_writer, revert_words, revert_line, revert_lines};
 
 use crate::left::{first_absent, is_there, last_writer, writer_left};
 use crate::taken::TakenBack;
@@ -31,7 +32,8 @@ fn append_presence<A: Allocator>(
     is: bool,
     item: Stamp,
 ) -> Result<(), AllocError>
-    ensures { OnOk result (string_bytes text.new ≡ string_bytes text.old ++ presence_line was is item) }
+    ensures { OnOk result (string_bytes text.new ≡ string_bytes text.old
+        ++ presence_line was is item) }
 {
     match (was, is) {
         (false, false) => {
@@ -150,7 +152,8 @@ pub(crate) fn append_lines<A: Allocator + Clone, B: Allocator>(
     items: &ItemStates<A>,
     all: &[TakenBack<'_, A>],
 ) -> Result<(), AllocError>
-    ensures { OnOk result (string_bytes text.new ≡ string_bytes text.old ++ revert_lines log.now items.now all.now) }
+    ensures { OnOk result (string_bytes text.new ≡ string_bytes text.old
+        ++ revert_lines log.now items.now all.now) }
 {
     for i in 0..all.len() {
         let place = all.len() - 1 - i;

@@ -55,7 +55,8 @@ fn append_script<A: Allocator + Clone, B: Allocator>(
     log: &Log<A>,
     stamps: &[Stamp],
 ) -> Result<(), AllocError>
-    ensures text { OnOk result (string_bytes text.new ≡ string_bytes text.old ++ revert_text log.now stamps.now) }
+    ensures text { OnOk result (string_bytes text.new ≡ string_bytes text.old
+        ++ revert_text log.now stamps.now) }
 {
     let stamps = sorted(alloc.clone()?, stamps)?;
     let ops = sorted_ops(alloc.clone()?, log)?;
@@ -65,12 +66,12 @@ fn append_script<A: Allocator + Clone, B: Allocator>(
 }
 
 /// The script that takes the operations of these stamps back: a line for each, the newest first and
-/// each once, with which an editor writes what the ready operations of smaller stamps left. A remark
-/// stands in place of a line that would do nothing or harm. The page on output describes it.
+/// each once, with which an editor writes what the ready operations of smaller stamps left. A
+/// remark stands in place of a line that would do nothing or harm. The page on output describes it.
 ///
-/// `NoSuchItem` (21) with the first of the stamps, as they are given, that no operation of the log has:
-/// before all else. `Memory` (0) where memory runs out. In a time of n log n for n operations, and of k
-/// stamps k times k steps at most, which look at no operation.
+/// `NoSuchItem` (21) with the first of the stamps, as they are given, that no operation of the log
+/// has: before all else. `Memory` (0) where memory runs out. In a time of n log n for n operations,
+/// and of k stamps k times k steps at most, which look at no operation.
 pub fn revert_text<A: Allocator + Clone>(
     alloc: A,
     log: &Log<A>,
@@ -78,7 +79,8 @@ pub fn revert_text<A: Allocator + Clone>(
 ) -> Result<String<A>, RevertFault>
     ensures text { IfOk result (λ text. string_bytes text ≡ revert_text log.now stamps.now) }
     ensures named { OnOk result (first_missing log.now stamps.now ≡ None) }
-    ensures missing { IfSome (first_missing log.now stamps.now) (λ s. result ≡ Err (RevertFault.NoSuchItem s)) }
+    ensures missing { IfSome (first_missing log.now stamps.now)
+        (λ s. result ≡ Err (RevertFault.NoSuchItem s)) }
     ensures only_missing { IfErr result (IsMissing log.now stamps.now) }
 {
     if let Some(stamp) = first_missing(log, stamps) {

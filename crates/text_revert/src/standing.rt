@@ -1,8 +1,12 @@
 //! What stands in the field that an operation writes.
 
 ghost use Rattle.std.specs.Prelude.{◌≡◌, option_map, IfOk};
-ghost use Rattle.mt_op.specs.OpValue.{MoveTrack, MoveClip, TrimClip, SetGain, SetMute, MoveMarker, Retitle, SetFade, SetMarkerLength};
-ghost use Rattle.mt_op.specs.Writes.{title_written, gain_written, mute_written, track_place_written, clip_place_written, trim_written, position_written, fades_written, marker_length_written, last_write};
+ghost use Rattle.mt_op.specs.OpValue.{MoveTrack, MoveClip, TrimClip, SetGain, SetMute, MoveMarker};
+ghost use Rattle.mt_op.specs.OpValue.{Retitle, SetFade, SetMarkerLength};
+ghost use Rattle.mt_op.specs.Writes.{title_written, gain_written, mute_written};
+ghost use Rattle.mt_op.specs.Writes.{track_place_written, clip_place_written, trim_written};
+ghost use Rattle.mt_op.specs.Writes.{position_written, fades_written, marker_length_written};
+ghost use Rattle.mt_op.specs.Writes.{last_write};
 ghost use Rattle.text_revert.specs.Before.{place_track, as_act, standing};
 
 use mt_op::{Body, Op};
@@ -90,7 +94,8 @@ fn clip_place<A: Allocator>(items: &ItemStates<A>, clip: Stamp) -> Option<Standi
 }
 
 fn trim<A: Allocator>(items: &ItemStates<A>, clip: Stamp) -> Option<StandingAct<A>>
-    ensures { result ≡ as_act (λ trim. TrimClip clip trim.offset trim.len) (last_write trim_written clip items.now) }
+    ensures { result ≡ as_act (λ trim. TrimClip clip trim.offset trim.len)
+        (last_write trim_written clip items.now) }
 {
     match items.trim(clip) {
         Some(trim) => Some(StandingAct {
@@ -154,7 +159,8 @@ fn title<A: Allocator + Clone>(
     items: &ItemStates<A>,
     item: Stamp,
 ) -> Result<Option<StandingAct<A>>, AllocError>
-    ensures { IfOk result (λ standing. standing ≡ as_act (Retitle item) (last_write title_written item items.now)) }
+    ensures { IfOk result (λ standing. standing ≡ as_act (Retitle item)
+        (last_write title_written item items.now)) }
 {
     match items.title(item) {
         Some(title) => match title.get().try_clone() {
@@ -186,7 +192,8 @@ fn fades<A: Allocator>(items: &ItemStates<A>, clip: Stamp) -> Option<StandingAct
 }
 
 fn marker_length<A: Allocator>(items: &ItemStates<A>, marker: Stamp) -> Option<StandingAct<A>>
-    ensures { result ≡ as_act (SetMarkerLength marker) (last_write marker_length_written marker items.now) }
+    ensures { result ≡ as_act (SetMarkerLength marker)
+        (last_write marker_length_written marker items.now) }
 {
     match items.marker_length(marker) {
         Some(len) => Some(StandingAct {
@@ -200,7 +207,8 @@ fn marker_length<A: Allocator>(items: &ItemStates<A>, marker: Stamp) -> Option<S
     }
 }
 
-/// What stands in the field that an operation writes. What adds, removes or restores an item has none.
+/// What stands in the field that an operation writes. What adds, removes or restores an item has
+/// none.
 pub(crate) fn standing<A: Allocator + Clone>(
     items: &ItemStates<A>,
     log: &Log<A>,

@@ -14,8 +14,8 @@ use session_state::ItemStates;
 use std::alloc::{AllocError, Allocator};
 use std::marker::Model;
 
-/// An operation that is taken back, and what stood before it: whether what it needs did, whether its item was present, and what stood in the field
-/// that it writes.
+/// An operation that is taken back, and what stood before it: whether what it needs did, whether
+/// its item was present, and what stood in the field that it writes.
 #[derive(Drop)]
 pub(crate) struct TakenBack<'a, A: Allocator> {
     pub(crate) op: &'a Op<A>,
@@ -29,7 +29,8 @@ impl<'a, A: Allocator> Model for TakenBack<'a, A> {
 
     ghost Value = { TakenOf };
 
-    ghost view = { λ t. record { op = t.op.now; ready = t.ready; present = t.present; back = t.back } };
+    ghost view = { λ t. record { op = t.op.now; ready = t.ready; present = t.present; back = t.back
+        } };
 }
 
 /// Operations that are taken back, by rising stamp, and what stands now.
@@ -63,7 +64,8 @@ fn is_among(stamps: &[Stamp], stamp: Stamp) -> bool
     stamps.binary_search(&stamp).is_ok()
 }
 
-// Puts an operation and what stands before it behind others, where its stamp is one of these, which rise.
+// Puts an operation and what stands before it behind others, where its stamp is one of these, which
+// rise.
 fn push_taken<'a, A: Allocator + Clone>(
     all: &mut Vec<TakenBack<'a, A>, A>,
     items: &ItemStates<A>,
@@ -73,7 +75,8 @@ fn push_taken<'a, A: Allocator + Clone>(
 ) -> Result<(), AllocError>
     requires rise { Rises stamp_cmp stamps.now }
     ensures { OnOk result (all.new.items ≡ all.old.items
-        ++ map (taken_after log.now items.now) (filter (λ o. is_listed stamps.now o.stamp) (op.now ∷ []))) }
+        ++ map (taken_after log.now items.now) (filter (λ o. is_listed stamps.now o.stamp)
+            (op.now ∷ []))) }
 {
     if is_among(stamps, op.stamp()) {
         all.push(taken_after(items, log, op)?)?;
@@ -81,7 +84,8 @@ fn push_taken<'a, A: Allocator + Clone>(
     Ok(())
 }
 
-/// Of the operations of a log, by rising stamp, those with one of these stamps, which rise, and what stands now. Each operation is looked at once.
+/// Of the operations of a log, by rising stamp, those with one of these stamps, which rise, and
+/// what stands now. Each operation is looked at once.
 pub(crate) fn taken_of<'a, A: Allocator + Clone>(
     alloc: &A,
     log: &Log<A>,

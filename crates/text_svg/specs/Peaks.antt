@@ -1,5 +1,8 @@
--- The peaks of recordings in the boxes of clips (profile): in each unit of a box a line up and down from its middle, as long as what is drawn there is loud.
-use Rattle.std.specs.Prelude.{ℕ, zero, suc, ◌+◌, ◌*◌, ◌-◌, ◌/◌, ◌^◌, ◌==◌, ◌≡◌, ◌<◌, ◌≤◌, min, max, unsigned_abs, List, [], ◌++◌, length, codes, Option, Some, None, if◌then◌else◌}
+-- The peaks of recordings in the boxes of clips (profile): in each unit of a box a line up and down
+-- from its middle, as long as what is drawn there is loud.
+use Rattle.std.specs.Prelude.{ℕ, zero, suc, ◌+◌, ◌*◌, ◌-◌, ◌/◌, ◌^◌, ◌==◌, ◌≡◌, ◌<◌, ◌≤◌, min, max}
+use Rattle.std.specs.Prelude.{unsigned_abs, List, [], ◌++◌, length, codes, Option, Some, None}
+use Rattle.std.specs.Prelude.{if◌then◌else◌}
 use Rattle.std.specs.Int.{div_ceil}
 use Rattle.std.specs.List.{flat_map, range_with_len}
 use Rattle.mt_bwfread.specs.Fill.{sample_or_silence}
@@ -21,11 +24,13 @@ magnitude recording channel frame = unsigned_abs (sample_or_silence recording fr
 
 -- the greatest of a channel in so many frames from one on
 abbrev pub channel_peak : List ℕ → (channel first count : ℕ) → ℕ
-channel_peak recording channel first count = greatest (λ k. magnitude recording channel (first + k)) count
+channel_peak recording channel first count = greatest (λ k. magnitude recording channel (first + k))
+    count
 
 -- the greatest of all channels
 abbrev pub peak : List ℕ → (first count : ℕ) → ℕ
-peak recording first count = greatest (λ channel. channel_peak recording channel first count) (channels_of recording)
+peak recording first count = greatest (λ channel. channel_peak recording channel first count)
+    (channels_of recording)
 
 -- ---- columns: one for each unit of a box, from 0 on
 
@@ -39,11 +44,13 @@ column_start span at k = max at (unit_start span (units span at + k))
 
 -- how many are; none may be, where units are more than frames
 abbrev pub column_count : (span at len k : ℕ) → ℕ
-column_count span at len k = min (at + len) (unit_start span (units span at + k + 1)) - column_start span at k
+column_count span at len k = min (at + len) (unit_start span (units span at + k + 1)) - column_start
+    span at k
 
 -- the greatest magnitude of the recording of a clip in the frames of a column
 abbrev pub column_peak : List ℕ → (span : ℕ) → Clip → ℕ → ℕ
-column_peak recording span c k = peak recording (c.offset + (column_start span c.at k - c.at)) (column_count span c.at c.len k)
+column_peak recording span c k = peak recording (c.offset + (column_start span c.at k - c.at))
+    (column_count span c.at c.len k)
 
 -- ---- lines
 
@@ -53,11 +60,13 @@ half_height peak = peak * 15 / 2 ^ 31
 
 -- a line of a column, where it goes anywhere
 abbrev pub line : (k half_height : ℕ) → List ℕ
-line k half_height = if half_height == 0 then [] else numbered (codes "M") k ++ (numbered (codes " ") (16 - half_height) ++ numbered (codes "v") (2 * half_height))
+line k half_height = if half_height == 0 then [] else numbered (codes "M") k
+    ++ (numbered (codes " ") (16 - half_height) ++ numbered (codes "v") (2 * half_height))
 
 -- the lines of so many columns
 abbrev pub lines : List ℕ → (span : ℕ) → Clip → (count : ℕ) → List ℕ
-lines recording span c count = flat_map (λ k. line k (half_height (column_peak recording span c k))) (range_with_len 0 count)
+lines recording span c count = flat_map (λ k. line k (half_height (column_peak recording span c k)))
+    (range_with_len 0 count)
 
 -- those of all columns of a clip
 abbrev pub all_lines : List ℕ → (span : ℕ) → Clip → List ℕ
@@ -65,7 +74,8 @@ all_lines recording span c = lines recording span c (width span c.at c.len)
 
 -- lines as one element
 abbrev pub path : List ℕ → List ℕ
-path drawn = codes "<path class=\"peaks\" stroke=\"#246\" stroke-opacity=\".5\" d=\"" ++ (drawn ++ codes "\"/>")
+path drawn = codes "<path class=\"peaks\" stroke=\"#246\" stroke-opacity=\".5\" d=\""
+    ++ (drawn ++ codes "\"/>")
 
 -- where there are any
 abbrev pub path_of_any : List ℕ → List ℕ

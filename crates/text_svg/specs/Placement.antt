@@ -1,5 +1,6 @@
 -- Where what a session has is drawn (profile), in units of the picture.
-use Rattle.std.specs.Prelude.{ℕ, ◌+◌, ◌*◌, ◌-◌, ◌/◌, ◌%◌, ◌==◌, max, nat_lt, Bool, List, [], ◌∷◌, map, unwrap_or, if◌then◌else◌}
+use Rattle.std.specs.Prelude.{ℕ, ◌+◌, ◌*◌, ◌-◌, ◌/◌, ◌%◌, ◌==◌, max, nat_lt, Bool, List, [], ◌∷◌}
+use Rattle.std.specs.Prelude.{map, unwrap_or, if◌then◌else◌}
 use Rattle.std.specs.List.{flat_map, find}
 use Rattle.mt_sessionview.specs.SessionValue.{Clip, Track, Marker}
 
@@ -19,7 +20,8 @@ latest (end ∷ ends) = max end (latest ends)
 
 -- how many frames are drawn: to the end of the last clip or marker, and at least one
 abbrev pub span : List Track → List Marker → ℕ
-span tracks markers = max (latest (flat_map (λ t. map clip_end t.clips) tracks)) (latest (map marker_end markers))
+span tracks markers = max (latest (flat_map (λ t. map clip_end t.clips) tracks))
+    (latest (map marker_end markers))
 
 -- so many frames of a span in units, rounded down
 abbrev pub units : ℕ → ℕ → ℕ

@@ -5,8 +5,9 @@ use Rattle.std.specs.Fmt.{decimal}
 use Rattle.std.specs.List.{flat_map}
 use Rattle.std.specs.Str.{chars}
 
--- A character of a title: five as the entities of section 4.6. U+FFFE and U+FFFF, alone of those that a title can hold, are no characters of XML (section 2.2):
--- they become U+FFFD, the replacement character.
+-- A character of a title: five as the entities of section 4.6. U+FFFE and U+FFFF, alone of those
+-- that a title can hold, are no characters of XML (section 2.2): they become U+FFFD, the
+-- replacement character.
 abbrev pub escaped_char : ℕ → List ℕ
 escaped_char c =
     if c == 38 then codes "&amp;"

@@ -5,7 +5,8 @@ ghost use Rattle.std.specs.List.{flat_map};
 ghost use Rattle.hex.specs.Hex.{encode_lower};
 ghost use Rattle.mt_stamp.specs.Texts.{stamp_text};
 ghost use Rattle.text_svg.specs.Adding.{Adds};
-ghost use Rattle.text_svg.specs.Svg.{rising, falling, fade_in, fade_out, clip_head, clip_body, clip_label, clip_text};
+ghost use Rattle.text_svg.specs.Svg.{rising, falling, fade_in, fade_out, clip_head, clip_body};
+ghost use Rattle.text_svg.specs.Svg.{clip_label, clip_text};
 
 use crate::peaks::append_peaks;
 use crate::pieces::{append_area, append_gain, append_mute, append_rect};
@@ -106,7 +107,8 @@ fn append_clip_body<A: Allocator>(
     frames_out: u32,
 ) -> Result<(), AllocError>
     requires { 1 ≤ span }
-    ensures { OnOk result (Adds text.old text.new (clip_body span width stamp frames_in frames_out)) }
+    ensures { OnOk result (Adds text.old text.new (clip_body span width stamp frames_in frames_out))
+        }
 {
     append(text, "<title>")?;
     append_stamp(text, stamp)?;
@@ -174,7 +176,8 @@ pub(crate) fn append_clips<A: Allocator, B: Allocator + Clone, C: Allocator>(
 ) -> Result<(), AllocError>
     requires some { 1 ≤ span }
     requires span { span ≤ 2 ^ 33 }
-    ensures { OnOk result (Adds text.old text.new (flat_map (clip_text catalogue.now span) clips.now)) }
+    ensures { OnOk result (Adds text.old text.new (flat_map (clip_text catalogue.now span)
+        clips.now)) }
 {
     for clip in clips {
         append_clip(alloc, text, catalogue, span, clip)?;

@@ -9,18 +9,24 @@ ghost use Rattle.text_svg.specs.Svg.{svg_text};
 
 /// The frames of a column are those of the clip that are drawn in its unit, and no others.
 pub fn columns_by_units()
-    ensures { (span at len k frame : ℕ) → 1 ≤ span → IsInColumn span at len k frame ↔ IsDrawnAt span at len k frame }
+    ensures { (span at len k frame : ℕ) → 1 ≤ span → IsInColumn span at len k frame
+        ↔ IsDrawnAt span at len k frame }
 {}
 
-/// No sample of any channel in some frames is louder than their peak, and where that is not 0 there is one that is as loud.
+/// No sample of any channel in some frames is louder than their peak, and where that is not 0 there
+/// is one that is as loud.
 pub fn peak_is_greatest()
-    ensures most { (recording : List ℕ) (first count channel frame : ℕ) → IsHeard recording first count channel frame
+    ensures most { (recording : List ℕ) (first count channel frame : ℕ)
+        → IsHeard recording first count channel frame
         → magnitude recording channel frame ≤ peak recording first count }
     ensures reached { (recording : List ℕ) (first count : ℕ) → 0 < peak recording first count
-        → (channel : ℕ) × ((frame : ℕ) × (IsHeard recording first count channel frame × (magnitude recording channel frame ≡ peak recording first count))) }
+        → (channel : ℕ) × ((frame : ℕ) × (IsHeard recording first count channel frame
+            × (magnitude recording channel frame ≡ peak recording first count))) }
 {}
 
-/// Where no recording is at hand, the picture is the one without any: no box has an element for its peaks.
+/// Where no recording is at hand, the picture is the one without any: no box has an element for its
+/// peaks.
 pub fn without_recordings()
-    ensures { (rate : ℕ) (sources : Sources) (c : Session) → ((d : Digest) → found sources d ≡ None) → svg_text rate sources c ≡ svg_text rate [] c }
+    ensures { (rate : ℕ) (sources : Sources) (c : Session) → ((d : Digest) → found sources d ≡ None)
+        → svg_text rate sources c ≡ svg_text rate [] c }
 {}

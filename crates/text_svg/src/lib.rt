@@ -1,5 +1,5 @@
-//! A session drawn as a picture in SVG: times along the top, a row with its clips for each track, and over them the markers. The boxes of clips whose recordings are
-//! at hand show their peaks.
+//! A session drawn as a picture in SVG: times along the top, a row with its clips for each track,
+//! and over them the markers. The boxes of clips whose recordings are at hand show their peaks.
 //!
 //! ```rust
 //! use mt_op::{Body, Op, Title};
@@ -53,13 +53,16 @@
 //! }
 //! ```
 //!
-//! `specs/Svg.antt` is the text, `specs/Placement.antt` says where in the picture things are, `specs/Peaks.antt` what the peaks of a clip are, and
-//! `specs/XmlText.antt` how titles stand in it; `laws` says that a column has just the frames that are drawn in its unit, that no sample is louder than a peak, and
-//! that without recordings nothing else is changed. The picture names no other file and runs nothing: a browser shows it, and drawing programs read it. Where clips
-//! lie over one another, the one that begins later is drawn over the other.
+//! `specs/Svg.antt` is the text, `specs/Placement.antt` says where in the picture things are,
+//! `specs/Peaks.antt` what the peaks of a clip are, and `specs/XmlText.antt` how titles stand in
+//! it; `laws` says that a column has just the frames that are drawn in its unit, that no sample is
+//! louder than a peak, and that without recordings nothing else is changed. The picture names no
+//! other file and runs nothing: a browser shows it, and drawing programs read it. Where clips lie
+//! over one another, the one that begins later is drawn over the other.
 //!
-//! What peaks cost: each sample of a clip that is drawn and stands in its recording is read once, on each of its channels, in loops that look at nothing else, into
-//! one buffer; a clip takes memory for its lines, and a column none.
+//! What peaks cost: each sample of a clip that is drawn and stands in its recording is read once,
+//! on each of its channels, in loops that look at nothing else, into one buffer; a clip takes
+//! memory for its lines, and a column none.
 #![tactic(auto)]
 
 mod clip;

@@ -31,7 +31,8 @@ fn piece_peak(wave: &Wave<'_>, channel: u16, first: u64, samples: &mut [i32]) ->
     loudest(samples)
 }
 
-// The greatest magnitude of a channel in so many frames from one on. The samples are room to work in.
+// The greatest magnitude of a channel in so many frames from one on. The samples are room to work
+// in.
 fn channel_peak(wave: &Wave<'_>, channel: u16, first: u64, count: u64, samples: &mut [i32]) -> u32
     requires in_channels { channel < channels_of wave.now }
     requires room { 1 ≤ length samples.old }
@@ -51,7 +52,8 @@ fn channel_peak(wave: &Wave<'_>, channel: u16, first: u64, count: u64, samples: 
     peak
 }
 
-/// The greatest magnitude of the samples of all channels in so many frames from one on. The samples are room to work in.
+/// The greatest magnitude of the samples of all channels in so many frames from one on. The samples
+/// are room to work in.
 #[tactic(auto, using(crate::proofs::Loudness::greatest_more))]
 pub(crate) fn peak(wave: &Wave<'_>, first: u64, count: u64, samples: &mut [i32]) -> u32
     requires room { 1 ≤ length samples.old }

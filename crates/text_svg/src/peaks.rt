@@ -3,7 +3,8 @@
 ghost use Rattle.std.specs.Prelude.{◌≡◌, ◌<◌, ◌≤◌, ◌^◌, length, OnOk};
 ghost use Rattle.mt_render.specs.Sources.{found};
 ghost use Rattle.text_svg.specs.Adding.{Adds};
-ghost use Rattle.text_svg.specs.Peaks.{half_height, line, column_peak, all_lines, path, path_of_any, clip_peaks};
+ghost use Rattle.text_svg.specs.Peaks.{half_height, line, column_peak, all_lines, path};
+ghost use Rattle.text_svg.specs.Peaks.{path_of_any, clip_peaks};
 ghost use Rattle.text_svg.specs.Placement.{width};
 
 use crate::column::Column;
@@ -112,7 +113,8 @@ fn append_peaks_of<A: Allocator, B: Allocator + Clone>(
 ) -> Result<(), AllocError>
     requires some { 1 ≤ span }
     requires span { span ≤ 2 ^ 33 }
-    ensures { OnOk result (Adds text.old text.new (path_of_any (all_lines wave.now span clip.now))) }
+    ensures { OnOk result (Adds text.old text.new (path_of_any (all_lines wave.now span clip.now)))
+        }
 {
     let mut drawn = String::new(alloc.clone()?);
     append_lines(&mut drawn, wave, span, clip)?;
@@ -130,7 +132,8 @@ pub(crate) fn append_peaks<A: Allocator, B: Allocator + Clone, C: Allocator>(
 ) -> Result<(), AllocError>
     requires some { 1 ≤ span }
     requires span { span ≤ 2 ^ 33 }
-    ensures { OnOk result (Adds text.old text.new (clip_peaks (found catalogue.now clip.now.source) span clip.now)) }
+    ensures { OnOk result (Adds text.old text.new (clip_peaks (found catalogue.now clip.now.source)
+        span clip.now)) }
 {
     match catalogue.find(&clip.source) {
         Some(wave) => append_peaks_of(alloc, text, wave, span, clip),

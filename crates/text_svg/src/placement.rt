@@ -2,7 +2,8 @@
 
 ghost use Rattle.std.specs.Prelude.{◌≡◌, ◌<◌, ◌≤◌, ◌^◌};
 ghost use Rattle.std.specs.List.{find};
-ghost use Rattle.text_svg.specs.Placement.{units, x_at, width, band_width, row_top, name_top, gives_few, step};
+ghost use Rattle.text_svg.specs.Placement.{units, x_at, width, band_width, row_top, name_top};
+ghost use Rattle.text_svg.specs.Placement.{gives_few, step};
 
 /// So many frames of a span, in units.
 pub(crate) fn units(span: u64, frames: u64) -> u64

@@ -82,7 +82,8 @@ fn append_picture<A: Allocator, B: Allocator + Clone, C: Allocator, D: Allocator
     requires bottom { 72 ≤ bottom }
     requires small { bottom < 2 ^ 38 }
     requires few { length session.now.tracks < 2 ^ 32 }
-    ensures { OnOk result (Adds text.old text.new (picture rate span bottom catalogue.now session.now)) }
+    ensures { OnOk result (Adds text.old text.new (picture rate span bottom catalogue.now
+        session.now)) }
 {
     append_head(text, bottom + 8)?;
     append_style(text)?;
@@ -96,9 +97,9 @@ fn append_picture<A: Allocator, B: Allocator + Clone, C: Allocator, D: Allocator
 /// The picture of a session with the peaks of the recordings at hand: one element `svg` of SVG 1.1,
 /// well-formed XML in UTF-8, ended by a line feed. The page on output describes it.
 ///
-/// Times are at `rate` frames a second, 1 and more. Linear in the session's clips, markers and titles,
-/// and in the samples of the frames that are drawn. Fails where memory runs out, or where there are
-/// 2^32 tracks or more.
+/// Times are at `rate` frames a second, 1 and more. Linear in the session's clips, markers and
+/// titles, and in the samples of the frames that are drawn. Fails where memory runs out, or where
+/// there are 2^32 tracks or more.
 pub fn svg_text<A: Allocator + Clone, B: Allocator, C: Allocator>(
     alloc: A,
     rate: u32,

@@ -81,7 +81,8 @@ pub(crate) fn append_tracks<A: Allocator, B: Allocator + Clone, C: Allocator, D:
     requires some { 1 ≤ span }
     requires span { span ≤ 2 ^ 33 }
     requires few { length tracks.now < 2 ^ 32 }
-    ensures { OnOk result (Adds text.old text.new (each (track_text catalogue.now span) 0 tracks.now)) }
+    ensures { OnOk result (Adds text.old text.new (each (track_text catalogue.now span) 0
+        tracks.now)) }
 {
     for index in 0..tracks.len() {
         append_track(alloc, text, catalogue, span, index as u32, &tracks[index])?;

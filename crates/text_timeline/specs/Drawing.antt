@@ -1,5 +1,6 @@
 -- How a session is drawn: what the code keeps, and no definition of the subject.
-use Rattle.std.specs.Prelude.{◌≡◌, ℕ, ◌+◌, ◌/◌, ◌<◌, ◌==◌, min, max, nat_lt, List, [], ◌∷◌, ◌++◌, length, slice_index_or, if◌then◌else◌, Some, None}
+use Rattle.std.specs.Prelude.{◌≡◌, ℕ, ◌+◌, ◌/◌, ◌<◌, ◌==◌, min, max, nat_lt, List, [], ◌∷◌, ◌++◌}
+use Rattle.std.specs.Prelude.{length, slice_index_or, if◌then◌else◌, Some, None}
 use Rattle.mt_sessionview.specs.SessionValue.{Clip}
 use Rattle.mt_overlap.specs.declared.span.Segment.{Segment}
 use Rattle.mt_overlap.specs.Overlap.{SegmentIs, AreSortedDisjoint}
@@ -28,7 +29,8 @@ abbrev pub where_begun : ℕ → Extent → ℕ → Column → Column
 where_begun frames x k c = if x.at / frames == k then with_one c x else c
 
 abbrev pub Notes : ℕ → Extent → List Column → List Column → Type 0
-Notes frames x old new = (k : ℕ) → k < length old → column_at new k ≡ where_begun frames x k (column_at old k)
+Notes frames x old new = (k : ℕ) → k < length old → column_at new k
+    ≡ where_begun frames x k (column_at old k)
 
 -- what of these begins in the column k
 abbrev pub noted : ℕ → List Extent → ℕ → Column
@@ -42,11 +44,14 @@ pub record AreNoted (frames width : ℕ) (xs : List Extent) (columns : List Colu
 -- the first frame behind those of these that begin before the column k
 abbrev pub reach_before : ℕ → List Extent → ℕ → ℕ
 reach_before frames [] k = 0
-reach_before frames (x ∷ xs) k = if nat_lt (x.at / frames) k then max (x.at + x.len) (reach_before frames xs k) else reach_before frames xs k
+reach_before frames (x ∷ xs) k = if nat_lt (x.at / frames) k then max (x.at + x.len)
+    (reach_before frames xs k) else reach_before frames xs k
 
--- what is in a column, by what begins in it, how far that reaches which begins before, and its first frame
+-- what is in a column, by what begins in it, how far that reaches which begins before, and its
+-- first frame
 abbrev pub cell_by : Column → ℕ → ℕ → Cell
-cell_by c reach first = if nat_lt 1 c.begun then Several else (if c.begun == 1 then One else (if nat_lt first reach then Lies else Free))
+cell_by c reach first = if nat_lt 1 c.begun then Several else
+    (if c.begun == 1 then One else (if nat_lt first reach then Lies else Free))
 
 abbrev pub cell_at : List Cell → ℕ → Cell
 cell_at cells k = slice_index_or cells k Several
@@ -57,11 +62,13 @@ pub record AreCells (frames width : ℕ) (xs : List Extent) (cells : List Cell) 
 
 -- what cells tell of the things that were noted
 abbrev pub Tell : ℕ → List Column → List Cell → Type 0
-Tell frames columns cells = (xs : List Extent) → AreNoted frames (length columns) xs columns → AreCells frames (length columns) xs cells
+Tell frames columns cells = (xs : List Extent) → AreNoted frames (length columns) xs columns
+    → AreCells frames (length columns) xs cells
 
 -- the marks of what cells tell are written
 abbrev pub WritesMarks : List Cell → List ℕ → List ℕ → Type 0
-WritesMarks cells old new = (frames width : ℕ) (xs : List Extent) → AreCells frames width xs cells → new ≡ old ++ marker_marks frames xs width
+WritesMarks cells old new = (frames width : ℕ) (xs : List Extent) → AreCells frames width xs cells
+    → new ≡ old ++ marker_marks frames xs width
 
 -- ---- which clip sounds
 

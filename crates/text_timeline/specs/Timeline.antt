@@ -1,5 +1,8 @@
--- A session drawn as text (profile): a line for the markers and one for each track, in columns of so many frames, and a last line that says how many these are.
-use Rattle.std.specs.Prelude.{ℕ, ◌+◌, ◌*◌, ◌-◌, ◌/◌, ◌==◌, ◌&&◌, min, max, nat_le, nat_lt, Bool, List, [], ◌∷◌, ◌++◌, map, replicate, Option, Some, None, codes, if◌then◌else◌}
+-- A session drawn as text (profile): a line for the markers and one for each track, in columns of
+-- so many frames, and a last line that says how many these are.
+use Rattle.std.specs.Prelude.{ℕ, ◌+◌, ◌*◌, ◌-◌, ◌/◌, ◌==◌, ◌&&◌, min, max, nat_le, nat_lt, Bool}
+use Rattle.std.specs.Prelude.{List, [], ◌∷◌, ◌++◌, map, replicate, Option, Some, None, codes}
+use Rattle.std.specs.Prelude.{if◌then◌else◌}
 use Rattle.std.specs.Fmt.{decimal, char_count, take_chars}
 use Rattle.std.specs.Int.{div_ceil}
 use Rattle.std.specs.List.{flat_map, list_any, count_by, range_with_len}
@@ -36,11 +39,13 @@ end_of (x ∷ xs) = max (x.at + x.len) (end_of xs)
 
 -- how many frames a session has: to the end of its last clip or marker
 abbrev pub span : List Track → List Marker → ℕ
-span tracks markers = max (end_of (flat_map (λ t. clip_extents t.clips) tracks)) (end_of (marker_extents markers))
+span tracks markers = max (end_of (flat_map (λ t. clip_extents t.clips) tracks))
+    (end_of (marker_extents markers))
 
 -- ---- columns
 
--- How many frames a column has, where a span is drawn in so many columns. The column k has those from k times as many on, and so a frame f lies in the column f / frames.
+-- How many frames a column has, where a span is drawn in so many columns. The column k has those
+-- from k times as many on, and so a frame f lies in the column f / frames.
 abbrev pub column : ℕ → ℕ → ℕ
 column width span = max 1 (div_ceil span width)
 
@@ -52,7 +57,8 @@ begun frames xs k = count_by (λ x. x.at / frames == k) xs
 abbrev pub lies : List Extent → ℕ → Bool
 lies xs f = list_any (λ x. nat_le x.at f && nat_lt f (x.at + x.len)) xs
 
--- what of these is in the column k: several that begin in it, one that does, one that lies at its first frame, or none
+-- what of these is in the column k: several that begin in it, one that does, one that lies at its
+-- first frame, or none
 abbrev pub cell : ℕ → List Extent → ℕ → Cell
 cell frames xs k =
     if nat_lt 1 (begun frames xs k) then Several
@@ -70,7 +76,8 @@ marker_mark Free = 46
 
 -- of a clip that is heard at a frame: `/` where it fades in, `\` where it fades out, and else `=`
 abbrev pub sound_mark : Clip → ℕ → ℕ
-sound_mark c f = if nat_lt f (c.at + c.fade_in) then 47 else (if nat_le (c.at + c.len) (f + c.fade_out) then 92 else 61)
+sound_mark c f = if nat_lt f (c.at + c.fade_in) then 47 else
+    (if nat_le (c.at + c.len) (f + c.fade_out) then 92 else 61)
 
 -- where clips lie at a frame, by the one that is heard: `-` where none is
 abbrev pub lying_mark : Option Clip → ℕ → ℕ
@@ -81,7 +88,8 @@ lying_mark None f = 45
 abbrev pub heard : Bool → List Clip → ℕ → Option Clip
 heard mute clips f = if mute then None else sounding clips f
 
--- in a track's line: `[` where a clip begins, by the one that is heard where clips lie, and else `.`
+-- in a track's line: `[` where a clip begins, by the one that is heard where clips lie, and else
+-- `.`
 abbrev pub cell_mark : Cell → Option Clip → ℕ → ℕ
 cell_mark Several o f = 91
 cell_mark One o f = 91
@@ -90,7 +98,8 @@ cell_mark Free o f = 46
 
 -- the mark of the column k of a track
 abbrev pub track_mark : ℕ → Bool → List Clip → ℕ → ℕ
-track_mark frames mute clips k = cell_mark (cell frames (clip_extents clips) k) (heard mute clips (k * frames)) (k * frames)
+track_mark frames mute clips k = cell_mark (cell frames (clip_extents clips) k)
+    (heard mute clips (k * frames)) (k * frames)
 
 -- the marks of so many columns
 abbrev pub marks : (ℕ → ℕ) → ℕ → List ℕ
@@ -112,11 +121,13 @@ label_width tracks = min 20 (longest tracks)
 
 -- the first 20 characters of a label, filled up with spaces
 abbrev pub label_text : ℕ → List ℕ → List ℕ
-label_text width label = take_chars 20 label ++ replicate (width - char_count (take_chars 20 label)) 32
+label_text width label = take_chars 20 label ++ replicate (width - char_count (take_chars 20 label))
+    32
 
 -- ` gain NUM/DEN`, where it is not 1/1
 abbrev pub gain_text : Gain → List ℕ
-gain_text g = if g.num == 1 && g.den == 1 then [] else codes " gain " ++ (decimal g.num ++ (codes "/" ++ decimal g.den))
+gain_text g = if g.num == 1 && g.den == 1 then [] else codes " gain "
+    ++ (decimal g.num ++ (codes "/" ++ decimal g.den))
 
 -- ` mute`, where it is muted
 abbrev pub mute_text : Bool → List ℕ
@@ -124,11 +135,13 @@ mute_text mute = if mute then codes " mute" else []
 
 abbrev pub markers_line : ℕ → ℕ → ℕ → List Marker → List ℕ
 markers_line label width frames markers =
-    label_text label (codes "markers") ++ (codes " " ++ (marker_marks frames (marker_extents markers) width ++ newline ∷ []))
+    label_text label (codes "markers") ++ (codes " " ++
+        (marker_marks frames (marker_extents markers) width ++ newline ∷ []))
 
 abbrev pub track_line : ℕ → ℕ → ℕ → Track → List ℕ
 track_line label width frames t =
-    label_text label t.title ++ (codes " " ++ (marks (track_mark frames t.mute t.clips) width ++ (gain_text t.gain ++ (mute_text t.mute ++ newline ∷ []))))
+    label_text label t.title ++ (codes " " ++ (marks (track_mark frames t.mute t.clips) width
+        ++ (gain_text t.gain ++ (mute_text t.mute ++ newline ∷ []))))
 
 -- ---- times
 
@@ -139,7 +152,9 @@ length_text Times rate frames = time_text rate frames
 
 -- `span FRAMES TIME column FRAMES TIME`, or `span TIME column TIME`
 abbrev pub span_line : SpanUnits → ℕ → ℕ → ℕ → List ℕ
-span_line lengths rate all frames = codes "span " ++ (length_text lengths rate all ++ (codes " column " ++ (length_text lengths rate frames ++ newline ∷ [])))
+span_line lengths rate all frames = codes "span " ++
+    (length_text lengths rate all ++ (codes " column "
+    ++ (length_text lengths rate frames ++ newline ∷ [])))
 
 -- ---- the text
 
@@ -147,8 +162,11 @@ span_line lengths rate all frames = codes "span " ++ (length_text lengths rate a
 abbrev pub lines : ℕ → SpanUnits → ℕ → ℕ → ℕ → Session → List ℕ
 lines width lengths rate all frames c =
     markers_line (label_width c.tracks) width frames c.markers
-    ++ (flat_map (track_line (label_width c.tracks) width frames) c.tracks ++ span_line lengths rate all frames)
+    ++ (flat_map (track_line (label_width c.tracks) width frames) c.tracks
+        ++ span_line lengths rate all frames)
 
--- The timeline of a session. Of one with no clip and no marker it has columns of one frame with no mark, and a span of 0.
+-- The timeline of a session. Of one with no clip and no marker it has columns of one frame with no
+-- mark, and a span of 0.
 abbrev pub timeline_text : ℕ → SpanUnits → ℕ → Session → List ℕ
-timeline_text width lengths rate c = lines width lengths rate (span c.tracks c.markers) (column width (span c.tracks c.markers)) c
+timeline_text width lengths rate c = lines width lengths rate (span c.tracks c.markers)
+    (column width (span c.tracks c.markers)) c

@@ -1,7 +1,8 @@
 //! What begins in columns, and what lies in them.
 
 ghost use Rattle.std.specs.Prelude.{◌≡◌, ℕ, ◌<◌, ◌≤◌, ◌^◌, [], length, IfOk};
-ghost use Rattle.text_timeline.specs.Drawing.{column_at, with_one, cell_by, Notes, AreNoted, AreCells, Tell};
+ghost use Rattle.text_timeline.specs.Drawing.{column_at, with_one, cell_by, Notes, AreNoted};
+ghost use Rattle.text_timeline.specs.Drawing.{AreCells, Tell};
 ghost use Rattle.text_timeline.specs.Timeline.{clip_extents, marker_extents};
 
 use crate::cell::Cell;
@@ -75,7 +76,8 @@ fn no_columns<A: Allocator>(alloc: A, width: u16) -> Result<Vec<Column, A>, Allo
     }
 }
 
-// What is in a column, where it is known what begins in it and how far that reaches which begins before it.
+// What is in a column, where it is known what begins in it and how far that reaches which begins
+// before it.
 fn cell_by(column: Column, reach: u64, first: u64) -> Cell
     ensures { result ≡ cell_by column reach first }
 {
@@ -136,7 +138,8 @@ pub(crate) fn marker_cells<A: Allocator + Clone, B: Allocator>(
 ) -> Result<Vec<Cell, A>, AllocError>
     requires some { 1 ≤ frames }
     requires frames { frames ≤ 2 ^ 33 }
-    ensures { IfOk result (λ cells. AreCells frames width (marker_extents markers.now) cells.items) }
+    ensures { IfOk result (λ cells. AreCells frames width (marker_extents markers.now) cells.items)
+        }
 {
     let mut columns = no_columns(alloc.clone()?, width)?;
     note_markers(&mut columns, frames, markers);

@@ -2,7 +2,8 @@
 
 ghost use Rattle.std.specs.Prelude.{◌≡◌, ◌+◌, ◌<◌, ◌^◌, max};
 ghost use Rattle.std.specs.List.{flat_map};
-ghost use Rattle.text_timeline.specs.Timeline.{clip_extent, clip_extents, marker_extent, marker_extents, end_of, span};
+ghost use Rattle.text_timeline.specs.Timeline.{clip_extent, clip_extents, marker_extent};
+ghost use Rattle.text_timeline.specs.Timeline.{marker_extents, end_of, span};
 
 use mt_sessionview::{ClipView, MarkerView, TrackView};
 use std::alloc::Allocator;

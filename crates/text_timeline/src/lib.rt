@@ -1,4 +1,5 @@
-//! A session drawn as text: where its markers stand, and where on each track clips lie, sound and fade.
+//! A session drawn as text: where its markers stand, and where on each track clips lie, sound and
+//! fade.
 //!
 //! ```rust
 //! use mt_op::{Body, Op, Title};
@@ -27,8 +28,9 @@
 //! }
 //! ```
 //!
-//! `specs/Timeline.antt` is the text. Each column has as many frames, and what is said of it is said of its first frame, but for `[`, `*` and `^`, which tell
-//! what begins anywhere in it. Of clips that lie over one another the one is drawn that sounds where the track is rendered.
+//! `specs/Timeline.antt` is the text. Each column has as many frames, and what is said of it is
+//! said of its first frame, but for `[`, `*` and `^`, which tell what begins anywhere in it. Of
+//! clips that lie over one another the one is drawn that sounds where the track is rendered.
 #![tactic(auto)]
 
 mod cell;

@@ -2,7 +2,8 @@
 
 ghost use Rattle.std.specs.Prelude.{◌≡◌, ◌<◌, ◌≤◌, ◌^◌, ◌++◌, OnOk};
 ghost use Rattle.std.specs.List.{flat_map};
-ghost use Rattle.text_timeline.specs.Timeline.{gain_text, mute_text, markers_line, track_line, span_line};
+ghost use Rattle.text_timeline.specs.Timeline.{gain_text, mute_text, markers_line, track_line};
+ghost use Rattle.text_timeline.specs.Timeline.{span_line};
 
 use crate::column::{clip_cells, marker_cells};
 use crate::label::append_label;
@@ -49,7 +50,8 @@ pub(crate) fn append_markers_line<A: Allocator + Clone, B: Allocator, C: Allocat
 ) -> Result<(), AllocError>
     requires some { 1 ≤ frames }
     requires frames { frames ≤ 2 ^ 33 }
-    ensures { OnOk result (text.new.items ≡ text.old.items ++ markers_line label width frames markers.now) }
+    ensures { OnOk result (text.new.items ≡ text.old.items
+        ++ markers_line label width frames markers.now) }
 {
     let cells = marker_cells(alloc, width, frames, markers)?;
     append_label(alloc, text, label, "markers")?;
@@ -70,7 +72,8 @@ fn append_track_line<A: Allocator + Clone, B: Allocator, C: Allocator>(
 ) -> Result<(), AllocError>
     requires some { 1 ≤ frames }
     requires frames { frames ≤ 2 ^ 33 }
-    ensures { OnOk result (text.new.items ≡ text.old.items ++ track_line label width frames track.now) }
+    ensures { OnOk result (text.new.items ≡ text.old.items
+        ++ track_line label width frames track.now) }
 {
     let clips = track.clips.items();
     let cells = clip_cells(alloc, width, frames, clips)?;
@@ -94,7 +97,8 @@ pub(crate) fn append_track_lines<A: Allocator + Clone, B: Allocator, C: Allocato
 ) -> Result<(), AllocError>
     requires some { 1 ≤ frames }
     requires frames { frames ≤ 2 ^ 33 }
-    ensures { OnOk result (text.new.items ≡ text.old.items ++ flat_map (track_line label width frames) tracks.now) }
+    ensures { OnOk result (text.new.items ≡ text.old.items
+        ++ flat_map (track_line label width frames) tracks.now) }
 {
     for track in tracks {
         append_track_line(alloc, text, label, width, frames, track)?;

@@ -2,7 +2,8 @@
 
 ghost use Rattle.std.specs.Prelude.{◌≡◌, ◌<◌, ◌≤◌, ◌^◌, ◌++◌, length, OnOk};
 ghost use Rattle.text_timeline.specs.Drawing.{AreCells, AreTops, WritesMarks};
-ghost use Rattle.text_timeline.specs.Timeline.{clip_extents, marker_mark, sound_mark, cell_mark, track_mark, marks};
+ghost use Rattle.text_timeline.specs.Timeline.{clip_extents, marker_mark, sound_mark, cell_mark};
+ghost use Rattle.text_timeline.specs.Timeline.{track_mark, marks};
 
 use crate::cell::Cell;
 use crate::tops::heard;
@@ -77,7 +78,8 @@ pub(crate) fn append_track_marks<A: Allocator>(
     requires tops { AreTops clips.now tops.now }
     requires frames { frames ≤ 2 ^ 33 }
     requires few { length cells.now < 2 ^ 16 }
-    ensures { OnOk result (text.new.items ≡ text.old.items ++ marks (track_mark frames mute clips.now) (length cells.now)) }
+    ensures { OnOk result (text.new.items ≡ text.old.items
+        ++ marks (track_mark frames mute clips.now) (length cells.now)) }
 {
     for index in 0..cells.len() {
         let frame = index as u64 * frames;

@@ -36,7 +36,8 @@ fn append_lines<A: Allocator + Clone, B: Allocator, C: Allocator>(
     requires span { span ≤ 2 ^ 33 }
     requires some { 1 ≤ frames }
     requires frames { frames ≤ 2 ^ 33 }
-    ensures { OnOk result (text.new.items ≡ text.old.items ++ lines width lengths rate span frames session.now) }
+    ensures { OnOk result (text.new.items ≡ text.old.items
+        ++ lines width lengths rate span frames session.now) }
 {
     let label = label_width(session.tracks.items());
     append_markers_line(alloc, text, label, width, frames, session.markers.items())?;
@@ -45,10 +46,12 @@ fn append_lines<A: Allocator + Clone, B: Allocator, C: Allocator>(
 }
 
 /// The timeline of a session in `width` columns, 1 and more: a line for the markers, one for each
-/// track, and a last line with the span and the frames of a column. The page on output describes it.
+/// track, and a last line with the span and the frames of a column. The page on output describes
+/// it.
 ///
-/// Times are at `rate` frames a second, 1 and more, rounded down. In a time of n log n for n clips and
-/// markers, and of `width` times the logarithm of its clips for each track. Fails where memory runs out.
+/// Times are at `rate` frames a second, 1 and more, rounded down. In a time of n log n for n clips
+/// and markers, and of `width` times the logarithm of its clips for each track. Fails where memory
+/// runs out.
 pub fn timeline_text<A: Allocator + Clone, B: Allocator>(
     alloc: A,
     width: u16,

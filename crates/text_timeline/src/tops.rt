@@ -41,7 +41,8 @@ fn first_behind(segments: &[Segment], frame: u64) -> usize
     requires tidy { AreSortedDisjoint segments.now }
     ensures within { result ≤ length segments.now }
     ensures before { (k : ℕ) → k < result → (segment_at segments.now k).end ≤ frame }
-    ensures behind { (k : ℕ) → result ≤ k → k < length segments.now → frame < (segment_at segments.now k).end }
+    ensures behind { (k : ℕ) → result ≤ k → k < length segments.now → frame
+        < (segment_at segments.now k).end }
 {
     let mut low = 0;
     let mut high = segments.len();

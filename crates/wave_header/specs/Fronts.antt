@@ -1,5 +1,6 @@
 -- The front of a wave file, up to its samples.
-use Rattle.std.specs.Prelude.{◌≡◌, ℕ, ◌+◌, ◌-◌, ◌^◌, ◌<◌, ◌≤◌, true, List, ◌++◌, length, take, drop, slice_range, codes, None}
+use Rattle.std.specs.Prelude.{◌≡◌, ℕ, ◌+◌, ◌-◌, ◌^◌, ◌<◌, ◌≤◌, true, List, ◌++◌, length, take, drop}
+use Rattle.std.specs.Prelude.{slice_range, codes, None}
 use Rattle.std.specs.Str.{bytes_eq}
 use Rattle.byteorder.specs.Endian.{little_bytes}
 use Rattle.mt_bwfread.specs.Riff.{u32_at, Chunk, chunks_of, rest_of, content_of}
@@ -11,8 +12,8 @@ pub record AreOthers (bytes : List ℕ) : Type 0 where
   pub rest : (behind : List ℕ) → rest_of (bytes ++ behind) ≡ rest_of behind
   pub none : content_of (codes "data") chunks ≡ None
 
--- A file that begins with these bytes is a wave file so far, its first chunk data begins at this place, says so many bytes, and ends within
--- the RIFF chunk.
+-- A file that begins with these bytes is a wave file so far, its first chunk data begins at this
+-- place, says so many bytes, and ends within the RIFF chunk.
 pub record BeginsSamples (front : List ℕ) (at len : ℕ) : Type 0 where
   pub from : 12 ≤ at
   pub within : at + 8 ≤ length front
@@ -27,4 +28,5 @@ pub record BeginsSamples (front : List ℕ) (at len : ℕ) : Type 0 where
 -- the front up to the samples, where the RIFF chunk and the chunk data say so many bytes fewer
 abbrev pub head_of : List ℕ → ℕ → ℕ → List ℕ
 head_of front at cut =
-    take 4 front ++ (little_bytes 4 (u32_at 4 front - cut) ++ (slice_range front 8 (at + 4) ++ little_bytes 4 (u32_at (at + 4) front - cut)))
+    take 4 front ++ (little_bytes 4 (u32_at 4 front - cut)
+        ++ (slice_range front 8 (at + 4) ++ little_bytes 4 (u32_at (at + 4) front - cut)))

@@ -1,5 +1,6 @@
 -- What an outline has of a file, and how the file is read.
-use Rattle.std.specs.Prelude.{◌≡◌, ◌≢◌, ℕ, true, false, List, ◌++◌, length, codes, Option, IfSome, unwrap_or, Result, OnOk, IfErr}
+use Rattle.std.specs.Prelude.{◌≡◌, ◌≢◌, ℕ, true, false, List, ◌++◌, length, codes, Option, IfSome}
+use Rattle.std.specs.Prelude.{unwrap_or, Result, OnOk, IfErr}
 use Rattle.std.specs.Io.KnownBytes.{Consumes, IsAtEnd}
 use Rattle.sha2.specs.Sha256.{sha256}
 use Rattle.base_io.specs.Latch.{Latch, ConsumesPrefix}
@@ -17,15 +18,19 @@ pub record SayTheSame (kept text : List ℕ) : Type 0 where
   pub cue : content_of (codes "cue ") (chunks_in kept) ≡ content_of (codes "cue ") (chunks_in text)
   pub lists : listed_in (chunks_in kept) ≡ listed_in (chunks_in text)
 
--- The outline is that of the file with this text: refused as it is, or saying what it says, and knowing how many bytes its samples have.
+-- The outline is that of the file with this text: refused as it is, or saying what it says, and
+-- knowing how many bytes its samples have.
 pub record IsWaveHeader {A : Type 0} (text : List ℕ) (o : WaveHeader A) : Type 0 where
   pub digest : o.digest ≡ sha256 text
   pub fault : fault_of o.kept.items ≡ fault_of text
   pub says : IsWave text → SayTheSame o.kept.items text
-  pub samples : IsWave text → unwrap_or o.samples (length (samples_of o.kept.items)) ≡ length (samples_of text)
+  pub samples : IsWave text → unwrap_or o.samples (length (samples_of o.kept.items))
+      ≡ length (samples_of text)
 
--- some bytes of a reader have come, and the outline is that of the file with this front and these bytes
-pub record Outlines {A : Type 0} (before after : Option (List ℕ)) (front : List ℕ) (o : WaveHeader A) : Type 0 where
+-- some bytes of a reader have come, and the outline is that of the file with this front and these
+-- bytes
+pub record Outlines {A : Type 0} (before after : Option (List ℕ)) (front : List ℕ)
+    (o : WaveHeader A) : Type 0 where
   pub behind : List ℕ
   pub consumed : Consumes before after behind
   pub header : IsWaveHeader (front ++ behind) o
@@ -37,7 +42,8 @@ pub record Gives {A : Type 0} (left : Option (List ℕ)) (o : WaveHeader A) : Ty
   pub header : IsWaveHeader text o
 
 -- of a reader in a latch, before and after, and of what was answered
-module _ {R X : Type 0} (remaining : R → Option (List ℕ)) (old new : Latch R) (result : Result X LatchFault) where
+module _ {R X : Type 0} (remaining : R → Option (List ℕ)) (old new : Latch R)
+    (result : Result X LatchFault) where
   -- It was read on, or why not.
   pub record ReadsOn : Type 0 where
     -- What is left is a rest of what there was.
@@ -47,7 +53,8 @@ module _ {R X : Type 0} (remaining : R → Option (List ℕ)) (old new : Latch R
     -- It is refused as Read where the latch has failed.
     pub refused_when_failed : IfErr result (λ fault. fault ≡ Read → new.failed ≡ true)
     -- Where memory runs out, the latch does not fail.
-    pub memory_leaves : IfErr result (λ fault. fault ≡ Memory → old.failed ≡ false → new.failed ≡ false)
+    pub memory_leaves : IfErr result (λ fault. fault ≡ Memory → old.failed ≡ false → new.failed
+        ≡ false)
     -- A latch that had failed stays as it was.
     pub stays_failed : old.failed ≡ true → new ≡ old
 

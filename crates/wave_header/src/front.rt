@@ -21,8 +21,8 @@ pub(crate) fn u32_at(bytes: &[u8], at: usize) -> u32
     LittleEndian::read_u32(&bytes[at..])
 }
 
-/// The first chunk `data`, where a file that begins with these bytes is a wave file so far, and that chunk begins in them and ends within the
-/// RIFF chunk.
+/// The first chunk `data`, where a file that begins with these bytes is a wave file so far, and
+/// that chunk begins in them and ends within the RIFF chunk.
 pub(crate) fn samples_in(front: &[u8]) -> Option<Samples>
     ensures { IfSome result (λ s. BeginsSamples front.now s.at s.len) }
 {

@@ -1,6 +1,7 @@
 //! A file on its way: all of it into its digest, and some of it kept.
 
-ghost use Rattle.std.specs.Prelude.{◌≡◌, ◌<◌, ◌≤◌, ◌++◌, ◌-◌, true, false, is_err, IfOk, IfErr, OnOk, OnSome, Some, length, drop, take};
+ghost use Rattle.std.specs.Prelude.{◌≡◌, ◌<◌, ◌≤◌, ◌++◌, ◌-◌, true, false, is_err, IfOk, IfErr};
+ghost use Rattle.std.specs.Prelude.{OnOk, OnSome, Some, length, drop, take};
 ghost use Rattle.std.specs.Io.KnownBytes.{Consumes, IsAtEnd};
 ghost use Rattle.base_io.specs.Latch.{ConsumesPrefix};
 ghost use Rattle.base_io.specs.declared.fault.LatchFault.TheVariants.{Memory, Read as ReadFault};
@@ -20,8 +21,10 @@ fn fill<R: Read>(input: &mut Latch<R>, piece: &mut [u8]) -> Result<usize, LatchF
     requires some { 0 < length piece.old }
     ensures size { length piece.new ≡ length piece.old }
     ensures within { IfOk result (λ count. count ≤ length piece.new) }
-    ensures bytes { IfOk result (λ count. Consumes (R.remaining input.old.inner) (R.remaining input.new.inner) (take count piece.new)) }
-    ensures at_end { IfOk result (λ count. count < length piece.new → IsAtEnd (R.remaining input.new.inner)) }
+    ensures bytes { IfOk result (λ count. Consumes (R.remaining input.old.inner)
+        (R.remaining input.new.inner) (take count piece.new)) }
+    ensures at_end { IfOk result (λ count. count < length piece.new
+        → IsAtEnd (R.remaining input.new.inner)) }
     ensures prefix { ConsumesPrefix (R.remaining input.old.inner) (R.remaining input.new.inner) }
     ensures refusal { IfErr result (λ fault. fault ≡ ReadFault) }
     ensures refused_when_failed { input.new.failed ≡ is_err result }
@@ -53,7 +56,8 @@ pub(crate) struct HashAndKeep<A: Allocator> {
 impl<A: Allocator> HashAndKeep<A> {
     // Keeps a piece, but for the bytes that are to be skipped.
     fn keep(&mut self, piece: &[u8]) -> Result<(), AllocError>
-        ensures kept { OnOk result (self.new.kept.items ≡ self.old.kept.items ++ drop self.old.skip piece.now) }
+        ensures kept { OnOk result (self.new.kept.items ≡ self.old.kept.items
+            ++ drop self.old.skip piece.now) }
         ensures skip { OnOk result (self.new.skip ≡ self.old.skip - length piece.now) }
         ensures sha256_stream { self.new.sha256_stream ≡ self.old.sha256_stream }
     {
@@ -62,16 +66,19 @@ impl<A: Allocator> HashAndKeep<A> {
         self.kept.extend_from_slice(&piece[skipped..])
     }
 
-    /// Takes the next piece, and tells the digest of all where the file ends with it. The piece is room to read into.
+    /// Takes the next piece, and tells the digest of all where the file ends with it. The piece is
+    /// room to read into.
     pub(crate) fn take<R: Read>(
         &mut self,
         input: &mut Latch<R>,
         piece: &mut [u8; PIECE],
     ) -> Result<Option<[u8; 32]>, LatchFault>
         ensures bytes { IfOk result (Takes R.remaining input.old input.new self.old self.new) }
-        ensures at_end { IfOk result (λ digest. OnSome digest (IsAtEnd (R.remaining input.new.inner))) }
+        ensures at_end { IfOk result (λ digest. OnSome digest
+            (IsAtEnd (R.remaining input.new.inner))) }
         ensures reads { ReadsOn R.remaining input.old input.new result }
-        ensures sound_without_memory { IfErr result (λ fault. fault ≡ Memory → input.new.failed ≡ false) }
+        ensures sound_without_memory { IfErr result (λ fault. fault ≡ Memory → input.new.failed
+            ≡ false) }
         ensures sound_when_read { OnOk result (input.new.failed ≡ false) }
         ensures counted { OnOk result (input.new.reads_left < input.old.reads_left) }
     {
@@ -85,7 +92,8 @@ impl<A: Allocator> HashAndKeep<A> {
         Ok(None)
     }
 
-    /// Takes at most so many pieces, and tells the digest of all where the file ends with the last of them.
+    /// Takes at most so many pieces, and tells the digest of all where the file ends with the last
+    /// of them.
     #[tactic(auto, using(crate::proofs::Passages::nothing, crate::proofs::Passages::goes_on))]
     pub(crate) fn take_some<R: Read>(
         &mut self,
@@ -94,7 +102,8 @@ impl<A: Allocator> HashAndKeep<A> {
         pieces: usize,
     ) -> Result<Option<[u8; 32]>, LatchFault>
         ensures bytes { IfOk result (Takes R.remaining input.old input.new self.old self.new) }
-        ensures at_end { IfOk result (λ digest. OnSome digest (IsAtEnd (R.remaining input.new.inner))) }
+        ensures at_end { IfOk result (λ digest. OnSome digest
+            (IsAtEnd (R.remaining input.new.inner))) }
         ensures reads { ReadsOn R.remaining input.old input.new result }
         ensures sound_when_over { IfOk result (λ digest. OnSome digest (input.new.failed ≡ false)) }
         ensures stays_sound { OnOk result (input.old.failed ≡ false → input.new.failed ≡ false) }
@@ -114,7 +123,8 @@ impl<A: Allocator> HashAndKeep<A> {
         input: &mut Latch<R>,
         piece: &mut [u8; PIECE],
     ) -> Result<[u8; 32], LatchFault>
-        ensures bytes { IfOk result (λ digest. Takes R.remaining input.old input.new self.old self.new (Some digest)) }
+        ensures bytes { IfOk result (λ digest. Takes R.remaining input.old input.new self.old
+            self.new (Some digest)) }
         ensures reads { ReadsToEnd R.remaining input.old input.new result }
     {
         loop {

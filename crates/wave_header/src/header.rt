@@ -66,7 +66,8 @@ impl<A: Allocator + Clone> WaveHeader<A> {
     ) -> Result<WaveHeader<A>, LatchFault>
         requires come { Holds front.sha256_stream front.kept.items }
         requires all { front.skip ≡ 0 }
-        ensures header { IfOk result (λ o. Outlines (R.remaining input.old.inner) (R.remaining input.new.inner) front.kept.items o) }
+        ensures header { IfOk result (λ o. Outlines (R.remaining input.old.inner)
+            (R.remaining input.new.inner) front.kept.items o) }
         ensures reads { ReadsToEnd R.remaining input.old input.new result }
     {
         let mut hash_and_keep = front;
@@ -78,8 +79,9 @@ impl<A: Allocator + Clone> WaveHeader<A> {
         })
     }
 
-    // Reads what stands behind the front of a file, and leaves out its samples, but for one byte where their number is odd: so the pad byte behind them
-    // is one still. Where the file ends before its samples do, its front says so too, and is kept.
+    // Reads what stands behind the front of a file, and leaves out its samples, but for one byte
+    // where their number is odd: so the pad byte behind them is one still. Where the file ends
+    // before its samples do, its front says so too, and is kept.
     fn leave_out<R: Read>(
         alloc: A,
         front: HashAndKeep<A>,
@@ -89,8 +91,10 @@ impl<A: Allocator + Clone> WaveHeader<A> {
     ) -> Result<WaveHeader<A>, LatchFault>
         requires come { Holds front.sha256_stream front.kept.items }
         requires begins { BeginsSamples front.kept.items samples.at samples.len }
-        requires goes_on { length front.kept.items + samples.len % 2 < samples.at + 8 + samples.len }
-        ensures header { IfOk result (λ o. Outlines (R.remaining input.old.inner) (R.remaining input.new.inner) front.kept.items o) }
+        requires goes_on { length front.kept.items + samples.len % 2 < samples.at + 8
+            + samples.len }
+        ensures header { IfOk result (λ o. Outlines (R.remaining input.old.inner)
+            (R.remaining input.new.inner) front.kept.items o) }
         ensures reads { ReadsToEnd R.remaining input.old input.new result }
     {
         let odd = samples.len % 2;
@@ -125,7 +129,8 @@ impl<A: Allocator + Clone> WaveHeader<A> {
     ) -> Result<WaveHeader<A>, LatchFault>
         requires come { Holds front.sha256_stream front.kept.items }
         requires all { front.skip ≡ 0 }
-        ensures header { IfOk result (λ o. Outlines (R.remaining input.old.inner) (R.remaining input.new.inner) front.kept.items o) }
+        ensures header { IfOk result (λ o. Outlines (R.remaining input.old.inner)
+            (R.remaining input.new.inner) front.kept.items o) }
         ensures reads { ReadsToEnd R.remaining input.old input.new result }
     {
         match samples_in(&front.kept) {
@@ -136,12 +141,14 @@ impl<A: Allocator + Clone> WaveHeader<A> {
         }
     }
 
-    /// Reads a wave file to its end. Its samples are not kept where they begin in its first MiB (1,048,576 bytes), so the outline takes at most that MiB
-    /// twice and what stands behind them; where they begin later, it takes all of the file. What is no wave file has an outline as well, which
-    /// `Wave::read` refuses as it refuses the file.
+    /// Reads a wave file to its end. Its samples are not kept where they begin in its first MiB
+    /// (1,048,576 bytes), so the outline takes at most that MiB twice and what stands behind them;
+    /// where they begin later, it takes all of the file. What is no wave file has an outline as
+    /// well, which `Wave::read` refuses as it refuses the file.
     ///
-    /// `Read` (45) where the latch has failed, before or in this call; `Memory` (0) where an allocation failed, and the latch has not failed
-    /// in this call. Either way the bytes that were read by then are gone.
+    /// `Read` (45) where the latch has failed, before or in this call; `Memory` (0) where an
+    /// allocation failed, and the latch has not failed in this call. Either way the bytes that were
+    /// read by then are gone.
     #[tactic(auto, using(crate::proofs::Outlining::gives_front, crate::proofs::Outlining::gives_behind))]
     pub fn read<R: Read>(alloc: A, input: &mut Latch<R>) -> Result<WaveHeader<A>, LatchFault>
         ensures header { IfOk result (λ o. Gives (R.remaining input.old.inner) o) }
@@ -170,7 +177,8 @@ impl<A: Allocator> WaveHeader<A> {
     ghost use Rattle.mt_bwfread.specs.Wave.{IsWave, frames_of};
     ghost use Rattle.wave_header.specs.WaveHeader.{IsWaveHeader};
 
-    /// The file without its samples: what `Wave::read` reads off it is what stands in the file, but for the number of frames and the samples.
+    /// The file without its samples: what `Wave::read` reads off it is what stands in the file, but
+    /// for the number of frames and the samples.
     pub fn bytes(&self) -> &[u8]
         ensures { result.now ≡ self.now.kept.items }
     {
@@ -184,10 +192,12 @@ impl<A: Allocator> WaveHeader<A> {
         self.digest
     }
 
-    /// The frames of the whole file: the samples of one channel. `wave` is what is read off the bytes of this outline.
+    /// The frames of the whole file: the samples of one channel. `wave` is what is read off the
+    /// bytes of this outline.
     pub fn frames(&self, wave: &Wave<'_>) -> u64
         requires { wave.now ≡ self.now.kept.items }
-        ensures value { (text : List ℕ) → IsWaveHeader text self.now → IsWave text → result ≡ frames_of text }
+        ensures value { (text : List ℕ) → IsWaveHeader text self.now → IsWave text → result
+            ≡ frames_of text }
         ensures small { result < 2 ^ 32 }
     {
         match self.samples {

@@ -20,9 +20,10 @@
 //! }
 //! ```
 //!
-//! An outline is a file of its own: the same chunks in the same order, but where the samples begin in the first MiB, at most one byte of them is left.
-//! So what `mt_bwfread` reads off it is what stands in the file: the refusal, the format, the broadcast extension and the cue points. The number of
-//! frames and the digest of the whole file stand beside it.
+//! An outline is a file of its own: the same chunks in the same order, but where the samples begin
+//! in the first MiB, at most one byte of them is left. So what `mt_bwfread` reads off it is what
+//! stands in the file: the refusal, the format, the broadcast extension and the cue points. The
+//! number of frames and the digest of the whole file stand beside it.
 #![tactic(auto)]
 
 mod front;

@@ -81,7 +81,8 @@ fn find<F: Files + AllocGlobal, W: Write>(
     )
 }
 
-// What is told where a file is named, and no clips are looked for, as the parser tells of a mistake.
+// What is told where a file is named, and no clips are looked for, as the parser tells of a
+// mistake.
 fn no_clips(alloc: Global) -> Exit {
     let text =
         "error: the argument '--wave' can only be used with KIND 'clip'\n\nUsage: radio find [OPTIONS] <LOG> <KIND> <WHAT>\n\nFor more information, try '--help'.\n";

@@ -35,7 +35,8 @@ pub(crate) const WORDS: Words = Words {
     below: &[],
 };
 
-// Pulls what the files of these names have into the first of them, which is not written in a dry run.
+// Pulls what the files of these names have into the first of them, which is not written in a dry
+// run.
 fn pulled<F: Files<File = File> + AllocGlobal, W: Write>(
     rt: &F,
     words: &ArgMatches<'_>,

@@ -105,7 +105,8 @@ fn serve_one<F: Files<File = File> + AllocGlobal>(
     )
 }
 
-// Whether a meeting was refused by what the caller said, or since LOG was changed while it was held: then the next caller is waited for.
+// Whether a meeting was refused by what the caller said, or since LOG was changed while it was
+// held: then the next caller is waited for.
 fn is_of_one_meeting(fault: &CliFault) -> bool {
     match fault {
         CliFault::Sync(_) | CliFault::Part(PartFault::NotNamed) => true,
@@ -132,7 +133,8 @@ fn tell_meeting<F: Files + AllocGlobal, E: Write>(
     }
 }
 
-// Serves so many meetings that come to their end, one after another; with 0 until it is interrupted.
+// Serves so many meetings that come to their end, one after another; with 0 until it is
+// interrupted.
 #[tactic(auto, using(crate::proofs::Telling::no_cause, crate::proofs::Telling::more_causes))]
 fn serve_all<F: Files<File = File> + AllocGlobal, E: Write>(
     rt: &F,

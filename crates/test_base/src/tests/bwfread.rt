@@ -1,5 +1,6 @@
-//! Wave files. What is a wave file and what it says, and why other bytes are refused, the clauses say of all bytes; the cases of `radio info` and `radio render`
-//! show it. No call takes memory, whatever counts and sizes the bytes tell.
+//! Wave files. What is a wave file and what it says, and why other bytes are refused, the clauses
+//! say of all bytes; the cases of `radio info` and `radio render` show it. No call takes memory,
+//! whatever counts and sizes the bytes tell.
 
 mod lengths;
 

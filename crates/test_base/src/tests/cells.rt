@@ -1,5 +1,5 @@
-//! Registers and presences. What is written last and what is live, and what joining and copying give, the clauses say of every register and presence, and the
-//! cases of `radio view` show.
+//! Registers and presences. What is written last and what is live, and what joining and copying
+//! give, the clauses say of every register and presence, and the cases of `radio view` show.
 
 mod presences;
 

@@ -1,5 +1,6 @@
-//! Digests of several messages at once: that they are those of FIPS 180-2 where there is memory, and that each growth is refused. That each message has its own
-//! digest, however long the others are, a clause says.
+//! Digests of several messages at once: that they are those of FIPS 180-2 where there is memory,
+//! and that each growth is refused. That each message has its own digest, however long the others
+//! are, a clause says.
 
 use base_sha256::digests_of;
 use std::alloc::{AllocError, Allocator, Global};

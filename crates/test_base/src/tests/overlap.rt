@@ -1,4 +1,5 @@
-//! Which span is on top where, worked out by hand, and each growth refused in turn. What the segments of spans are, a clause says of all spans.
+//! Which span is on top where, worked out by hand, and each growth refused in turn. What the
+//! segments of spans are, a clause says of all spans.
 
 ghost use Rattle.std.specs.Prelude.{◌≡◌, ◌≢◌, ◌<◌, ℕ, length, IsTrue};
 ghost use Rattle.mt_overlap.specs.Overlap.{span_at, PlacesDiffer};
@@ -22,7 +23,8 @@ fn place_at(spans: &[Span], which: usize) -> Stamp
 // Whether no span before this one has its place.
 fn is_apart(spans: &[Span], which: usize) -> bool
     requires { which < length spans.now }
-    ensures { IsTrue result → (k : ℕ) → k < which → (span_at spans.now k).place ≢ (span_at spans.now which).place }
+    ensures { IsTrue result → (k : ℕ) → k < which → (span_at spans.now k).place ≢
+        (span_at spans.now which).place }
 {
     let place = place_at(spans, which);
     for k in 0..which {

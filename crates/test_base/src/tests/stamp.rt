@@ -1,4 +1,5 @@
-//! What no clause says of stamps, their texts and lists: texts from outside, and what is left where an allocation fails.
+//! What no clause says of stamps, their texts and lists: texts from outside, and what is left where
+//! an allocation fails.
 
 use mt_stamp::laws::{compare_dots, compare_stamps};
 use mt_stamp::{List, Replica, Stamp, StampFault};
@@ -177,7 +178,8 @@ fn refuses_each_allocation_of_a_replica_text(rt: HostRuntime) -> Result<(), Fail
     Err(Fail::from("each run met a refusal"))
 }
 
-// Whether a text is as it was after a refused growth, and has the stamp behind it after a granted one.
+// Whether a text is as it was after a refused growth, and has the stamp behind it after a granted
+// one.
 fn is_appended(memory: &Refusing<Global>, stamp: Stamp) -> Result<bool, AllocError> {
     let mut text = String::from_str(memory, "at ")?;
     let is_refused = stamp.append_text(&mut text).is_err() && text.as_str() == "at ";

@@ -1,12 +1,13 @@
-//! Maps by stamps, with each growth refused in turn. What is found and what is left, the clauses say of every map.
+//! Maps by stamps, with each growth refused in turn. What is found and what is left, the clauses
+//! say of every map.
 
 use base_stampmap::StampMap;
 use mt_stamp::{Replica, Stamp};
 use std::alloc::{Allocator, Global};
 use test_alloc::Refusing;
 
-// Stamps of two replicas, as clock, replica and number: in order, after a greater number, after a gap, far on, and of one replica
-// and number under two clocks.
+// Stamps of two replicas, as clock, replica and number: in order, after a greater number, after a
+// gap, far on, and of one replica and number under two clocks.
 const PARTS: [(u64, u128, u64); 9] = [
     (1, 10, 1),
     (2, 11, 1),
@@ -35,7 +36,8 @@ fn put<M: Allocator + Clone>(
     }
 }
 
-// How many stamps have their index as their value once all are put in; none where an allocation fails.
+// How many stamps have their index as their value once all are put in; none where an allocation
+// fails.
 fn found<M: Allocator + Clone>(memory: M) -> Option<usize> {
     let mut map = StampMap::new(memory).ok()?;
     for index in 0..PARTS.len() {

@@ -1,5 +1,5 @@
-//! Lists of places. Where each goes, in whatever order they come, and what is refused, the clauses say of every list; here the worked
-//! examples run, and growths are refused.
+//! Lists of places. Where each goes, in whatever order they come, and what is refused, the clauses
+//! say of every list; here the worked examples run, and growths are refused.
 
 use mt_stamp::{Replica, Stamp, StampFault};
 use mt_tracklist::{Placed, TrackList, TrackListFault, is_newer};
@@ -72,7 +72,8 @@ fn put_all<M: Allocator>(
     Ok(())
 }
 
-// Whether places that are put into a list in the first order stand in the second, and its copy is equal; or the first refusal.
+// Whether places that are put into a list in the first order stand in the second, and its copy is
+// equal; or the first refusal.
 fn come_to(
     alloc: Global,
     places: &[Placed],
@@ -135,7 +136,8 @@ fn orders_places_below_others(rt: HostRuntime) -> Result<(), Fail> {
     Ok(())
 }
 
-// What a put of the first place is answered, how many places there are then, and whether an allocation failed.
+// What a put of the first place is answered, how many places there are then, and whether an
+// allocation failed.
 fn put_at(alloc: Global, at: u64, place: Stamp) -> (Result<(), TrackListFault>, usize, bool) {
     let memory = Refusing::new(alloc, at);
     let mut list = TrackList::new(&memory);

@@ -1,4 +1,5 @@
-//! Each growth of a command refused in turn, until a run meets no refusal; and that no count takes memory.
+//! Each growth of a command refused in turn, until a run meets no refusal; and that no count takes
+//! memory.
 use super::calls::{CALLS, Call, inputs_of, is_front, length_of};
 use super::running::run;
 use super::texts::{ONE_FRAME, PROMISING, SMALLEST};
@@ -10,7 +11,8 @@ use test_kit::Refusing;
 // More growths than a command asks for.
 const GROWTHS: u64 = 400;
 
-// Whether a command writes all, or fails with nothing written where an allocation does; a command that can do without it may go on.
+// Whether a command writes all, or fails with nothing written where an allocation does; a command
+// that can do without it may go on.
 fn is_right(
     answer: Option<Result<(), CliFault>>,
     call: Call,

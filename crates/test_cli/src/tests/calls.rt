@@ -6,7 +6,8 @@ use super::texts::{
 };
 use test_kit::RECORDING;
 
-/// A command. Of the two that also tell of what they write, the output is that of the log, or `told` the other one.
+/// A command. Of the two that also tell of what they write, the output is that of the log, or
+/// `told` the other one.
 #[derive(Clone, Copy, PartialEq, Eq)]
 pub(crate) enum Call {
     ViewLog,

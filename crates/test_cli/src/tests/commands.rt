@@ -1,4 +1,5 @@
-//! The program's commands, run by their words over the files of a temporary folder. The cases of the command line have more of each.
+//! The program's commands, run by their words over the files of a temporary folder. The cases of
+//! the command line have more of each.
 
 pub(crate) mod logs;
 mod renders;
@@ -44,8 +45,8 @@ fn list_of(alloc: Global, words: &str) -> Result<Vec<String>> {
     Ok(list)
 }
 
-// Whether the words, run over an input, are answered with this status, what is printed is the first text, and what stands on standard
-// error is the second.
+// Whether the words, run over an input, are answered with this status, what is printed is the first
+// text, and what stands on standard error is the second.
 fn is_answered(
     rt: &HostRuntime,
     (words, input): (&str, &[u8]),

@@ -9,7 +9,8 @@ use test_kit::{ChokedWriter, FailingWriter, SlowReader};
 
 const NEVER: usize = usize::MAX;
 
-// Whether a command is refused with nothing written where the read of this number fails, of its first input or of its second.
+// Whether a command is refused with nothing written where the read of this number fails, of its
+// first input or of its second.
 fn is_unread(alloc: Global, call: Call, which: usize, at: usize) -> bool {
     let (first, second) = inputs_of(call);
     let (first_fails, second_fails) = if which == 0 { (at, NEVER) } else { (NEVER, at) };
@@ -32,7 +33,8 @@ fn is_unread_at_each(alloc: Global, call: Call, which: usize, length: usize) -> 
     is_unread(alloc, call, which, length)
 }
 
-// Whether it is so of each of its inputs. The stream of a conversation is no input: test_editor cuts it.
+// Whether it is so of each of its inputs. The stream of a conversation is no input: test_editor
+// cuts it.
 fn is_unread_of_each(alloc: Global, call: Call) -> bool {
     let (first, second) = inputs_of(call);
     let of_first = first.is_empty() || is_unread_at_each(alloc, call, 0, first.len());

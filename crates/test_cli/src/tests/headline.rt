@@ -1,5 +1,5 @@
-//! Editors that have taken the same operations, in whatever order and however often, show one session, print one text and render
-//! one file.
+//! Editors that have taken the same operations, in whatever order and however often, show one
+//! session, print one text and render one file.
 
 use mt_cuewrite::{Head, bounce};
 use mt_op::{Digest, Op};
@@ -73,7 +73,8 @@ fn take_twice(editor: &mut Editor, op: Op) -> bool {
     editor.take(op).is_ok() && editor.take(copy).is_ok()
 }
 
-// Takes operations in the order of this number, each twice. The numbers below the product of 1 to their count stand for all their orders.
+// Takes operations in the order of this number, each twice. The numbers below the product of 1 to
+// their count stand for all their orders.
 fn take_in_order(editor: &mut Editor, mut ops: Vec<Op>, number: usize) -> bool {
     let mut rest = number;
     let mut taken = true;
@@ -89,7 +90,8 @@ fn take_in_order(editor: &mut Editor, mut ops: Vec<Op>, number: usize) -> bool {
     taken
 }
 
-// Takes all operations but the last two in the order of this number, and then the last two, each twice.
+// Takes all operations but the last two in the order of this number, and then the last two, each
+// twice.
 fn take_all(editor: &mut Editor, mut ops: Vec<Op>, number: usize) -> bool {
     let (Some(last), Some(before)) = (ops.pop(), ops.pop()) else {
         return false;
@@ -113,7 +115,8 @@ fn went_on(alloc: Global, name: Replica, log: Log, script: &[u8]) -> Option<Log>
     }
 }
 
-// The union of the logs of two editors: A begins with a script, B goes on with a copy by another, and A by a third.
+// The union of the logs of two editors: A begins with a script, B goes on with a copy by another,
+// and A by a third.
 fn union_of(alloc: Global, scripts: [&[u8]; 3]) -> Option<Log> {
     let first = went_on(alloc, A, Log::new(alloc), scripts[0])?;
     let copy = first.try_clone().ok()?;
@@ -132,7 +135,8 @@ fn ops_of(alloc: Global, log: &Log) -> Option<Vec<Op>> {
     Some(ops)
 }
 
-// Whether an editor agrees with another once it has taken the operations of that one's log in the order of this number, each twice.
+// Whether an editor agrees with another once it has taken the operations of that one's log in the
+// order of this number, each twice.
 fn agrees_after(alloc: Global, editor: &mut Editor, whole: &Editor, number: usize) -> Option<bool> {
     let ops = ops_of(alloc, whole.log()?)?;
     Some(take_all(editor, ops, number) && agree(alloc, whole, editor))
@@ -146,7 +150,8 @@ fn agrees_in_order(alloc: Global, whole: &Editor, number: usize) -> Option<bool>
     }
 }
 
-// How many operations an editor's log has, where newcomers agree with the editor in each of so many orders.
+// How many operations an editor's log has, where newcomers agree with the editor in each of so many
+// orders.
 fn agreements_with(alloc: Global, whole: &Editor, orders: usize) -> Option<usize> {
     for number in 0..orders {
         if agrees_in_order(alloc, whole, number) != Some(true) {
@@ -164,7 +169,8 @@ fn agreements(alloc: Global, scripts: [&[u8]; 3], orders: usize) -> Option<usize
     }
 }
 
-// Each script of B ends with three_sample_file's track and clip: they are the last two operations of the union.
+// Each script of B ends with three_sample_file's track and clip: they are the last two operations
+// of the union.
 
 // row: same_set_same_file, four_places
 #[test]

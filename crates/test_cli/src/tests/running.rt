@@ -181,7 +181,8 @@ fn run_by_hand<M: Allocator + Clone, R: Read + Drop, W: Write>(
     }
 }
 
-// An answer, where the output beside that which is looked at has all of its text, or nothing where it is the last or all is refused; else none.
+// An answer, where the output beside that which is looked at has all of its text, or nothing where
+// it is the last or all is refused; else none.
 fn beside(
     answer: Result<(), CliFault>,
     other: Latch<Vec<u8>>,
@@ -229,7 +230,8 @@ fn pull<M: Allocator + Clone, R: Read + Drop, W: Write>(
     beside(answer, other, PULLED)
 }
 
-// Lets a log meet an editor who has nothing, and gives the answer, where it has said what it has and sent what that one lacks, or a front of that where it is refused.
+// Lets a log meet an editor who has nothing, and gives the answer, where it has said what it has
+// and sent what that one lacks, or a front of that where it is refused.
 fn meet<M: Allocator + Clone, R: Read + Drop, W: Write>(
     memory: M,
     alloc: Global,

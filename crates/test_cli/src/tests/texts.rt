@@ -1,4 +1,5 @@
-//! What the commands read and write, worked out by hand or by a second reading of the formats (`tests/formats`).
+//! What the commands read and write, worked out by hand or by a second reading of the formats
+//! (`tests/formats`).
 
 /// The log of no operation.
 pub(crate) const EMPTY: &[u8] =
@@ -144,8 +145,8 @@ pub(crate) const FILE: [&[u8]; 7] = [
     b"data\x09\0\0\0\x01\0\0\x02\0\0\x03\0\0\0",
 ];
 
-/// Two frames of 24 bits; three labels, of which two have one name and one that of no cue point; a length; three cue points, of which two
-/// have one name.
+/// Two frames of 24 bits; three labels, of which two have one name and one that of no cue point; a
+/// length; three cue points, of which two have one name.
 pub(crate) const LABELLED: &[u8] =
     b"RIFF\xe2\0\0\0WAVEfmt \x10\0\0\0\x01\0\x01\0\x80\xbb\0\0\x80\x32\x02\0\x03\0\x18\0data\x06\0\0\0\x01\0\0\xff\xff\xffLIST\x5c\0\0\0adtllabl\x0d\0\0\0\x01\0\0\0News\0left\0labl\x0a\0\0\0\x01\0\0\0Later\0labl\x0c\0\0\0\x09\0\0\0Nowhere\0ltxt\x14\0\0\0\x01\0\0\0\x03\0\0\0rgn \0\0\0\0\0\0\0\0cue \x4c\0\0\0\x03\0\0\0\x01\0\0\0\x07\0\0\0data\0\0\0\0\0\0\0\0\x05\0\0\0\x02\0\0\0\x07\0\0\0data\0\0\0\0\0\0\0\0\xff\xff\xff\xff\x01\0\0\0\x07\0\0\0data\0\0\0\0\0\0\0\0\0\0\0\0";
 
@@ -168,6 +169,7 @@ pub(crate) const SMALLEST: &[u8] =
 
 pub(crate) const ONE_FRAME: &[u8] = b"\nrate 44100\nchannels 1\nbits 8\nframes 1\nbext none\n";
 
-/// The same with a count of 4,294,967,295 cue points, of which none is there, and with a label and a length that tell as many bytes.
+/// The same with a count of 4,294,967,295 cue points, of which none is there, and with a label and
+/// a length that tell as many bytes.
 pub(crate) const PROMISING: &[u8] =
     b"RIFF\xff\xff\0\0WAVEfmt \x10\0\0\0\x01\0\x01\0\x44\xac\0\0\x44\xac\0\0\x01\0\x08\0data\x01\0\0\0\0\0cue \x04\0\0\0\xff\xff\xff\xffLIST\x12\0\0\0adtllabl\xff\xff\xff\xff\x01\0\0\0N\0LIST\x12\0\0\0adtlltxt\xff\xff\xff\xff\x01\0\0\0\x03\0";

@@ -1,5 +1,6 @@
-//! What becomes of an operation that is taken, and what an edit makes and is refused for. The clauses say it of every editor and
-//! every operation, and the cases of `radio edit` show each refusal; here rows are compared whole, and each growth is refused in turn.
+//! What becomes of an operation that is taken, and what an edit makes and is refused for. The
+//! clauses say it of every editor and every operation, and the cases of `radio edit` show each
+//! refusal; here rows are compared whole, and each growth is refused in turn.
 
 mod bodies;
 mod copies;

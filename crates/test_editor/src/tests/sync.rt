@@ -1,4 +1,5 @@
-//! What no clause says: bytes that were written out by hand, and that every call succeeds where there is memory.
+//! What no clause says: bytes that were written out by hand, and that every call succeeds where
+//! there is memory.
 mod allocation;
 mod devices;
 mod growing;
@@ -14,7 +15,8 @@ use mt_sync::{Side, Talk, TalkFault, exchange};
 use std::alloc::{Allocator, Global};
 use test_kit::{A, B, Refusing, log_of};
 
-// All that the caller of the log of one marker sends: its Have, 37 bytes, the marker, 51 bytes, and Bye.
+// All that the caller of the log of one marker sends: its Have, 37 bytes, the marker, 51 bytes, and
+// Bye.
 const CALLER: &[u8] =
     b"\0\0\0\x21\x01\0\0\0\x01\0\0\0\0\0\0\0\0\0\0\0\0\0\0\0\x0a\0\0\0\0\0\0\0\x01\0\0\0\0\0\0\0\x2f\x02\0\0\0\x01\0\0\0\0\0\0\0\x01\0\0\0\0\0\0\0\0\0\0\0\0\0\0\0\x0a\0\0\0\0\0\0\0\x01\x0a\0\0\x01\xe0\x04News\0\0\0\x01\x03";
 
@@ -45,7 +47,8 @@ fn log_of_end<M: Allocator + Copy>(memory: M, side: Side) -> Option<Log<M>> {
     }
 }
 
-// How many operations an editor of markers has, each of which its session shows; none where it has failed, and has neither log nor session.
+// How many operations an editor of markers has, each of which its session shows; none where it has
+// failed, and has neither log nor session.
 fn held<M: Allocator + Clone>(editor: &Editor<M>) -> Option<usize> {
     match (editor.log(), editor.session()) {
         (Some(log), Some(session)) if session.markers.items().len() == log.len() => Some(log.len()),
@@ -68,7 +71,8 @@ fn has_the_marker<M: Allocator + Copy>(memory: M, editor: &Editor<M>) -> Option<
     Some(*editor.log()? == wanted)
 }
 
-// The fault of a talk that is out of turn from then on, and whose editor holds a front of what it was told or has failed.
+// The fault of a talk that is out of turn from then on, and whose editor holds a front of what it
+// was told or has failed.
 fn stopped<M: Allocator + Clone>(
     talk: &mut Talk<M>,
     editor: &mut Editor<M>,
@@ -80,7 +84,8 @@ fn stopped<M: Allocator + Clone>(
     }
 }
 
-// Feeds a talk a piece, and gives what is wanted behind its reply, if what is wanted begins with that.
+// Feeds a talk a piece, and gives what is wanted behind its reply, if what is wanted begins with
+// that.
 fn feed_piece<'w, M: Allocator + Clone>(
     talk: &mut Talk<M>,
     editor: &mut Editor<M>,
@@ -184,7 +189,8 @@ fn is_wanted(told: Result<bool, TalkFault>, tally: &Refusing<Global>) -> bool {
     }
 }
 
-// Whether an end that is fed all bytes ends: in pieces of a size, and in two pieces of which the first has it.
+// Whether an end that is fed all bytes ends: in pieces of a size, and in two pieces of which the
+// first has it.
 fn is_ended(alloc: Global, side: Side, first: usize) -> bool {
     let pieces = Cut { first, size: first };
     let two = Cut {

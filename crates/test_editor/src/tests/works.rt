@@ -1,4 +1,5 @@
-//! What is done with an editor that another function owns, since what owns one is dear to prove; once with memory, or with each growth refused in turn.
+//! What is done with an editor that another function owns, since what owns one is dear to prove;
+//! once with memory, or with each growth refused in turn.
 
 use mt_op::{Body, Op};
 use mt_opcodec::Log;
@@ -23,8 +24,9 @@ pub(crate) trait Work {
         Some(Log::new(memory))
     }
 
-    /// Whether all is right: where no growth is refused, what comes of it; where one is refused in a call that is looked at, its
-    /// answer and what it leaves. None where one is refused outside of such a call. Which it is, the tally tells.
+    /// Whether all is right: where no growth is refused, what comes of it; where one is refused in
+    /// a call that is looked at, its answer and what it leaves. None where one is refused outside
+    /// of such a call. Which it is, the tally tells.
     fn is_right<M: Allocator + Copy>(
         &self,
         editor: &mut Editor<M>,
@@ -48,7 +50,8 @@ fn looked_at<M: Allocator + Copy, W: Work>(
     work.is_right(editor, memory, alloc, tally)
 }
 
-// The same of an editor that is made of the log, and answers `Memory` just where an allocation fails.
+// The same of an editor that is made of the log, and answers `Memory` just where an allocation
+// fails.
 fn done<M: Allocator + Copy, W: Work>(
     memory: M,
     alloc: Global,
@@ -74,7 +77,8 @@ pub(crate) fn is_done<W: Work>(alloc: Global, work: &W) -> bool {
     refused_at(alloc, u64::MAX, work) == (Some(true), false)
 }
 
-/// How many growths are refused in the calls that are looked at, each in a run of its own; none where a run is not right.
+/// How many growths are refused in the calls that are looked at, each in a run of its own; none
+/// where a run is not right.
 pub(crate) fn refusals<W: Work>(alloc: Global, work: &W) -> Option<u64> {
     let mut number = 0u64;
     for at in 0..GROWTHS {

@@ -1,5 +1,6 @@
-//! A run of a world: which world a list of events makes, its clauses and the law `worked_histories` say, and the stored run of test_world shows
-//! it; here a run succeeds where there is memory, and each growth of it is refused in turn.
+//! A run of a world: which world a list of events makes, its clauses and the law `worked_histories`
+//! say, and the stored run of test_world shows it; here a run succeeds where there is memory, and
+//! each growth of it is refused in turn.
 
 use super::works::{Work, refusals};
 use mt_op::Title;
@@ -21,7 +22,8 @@ enum Step {
     Restart(usize),
 }
 
-// An edit of each kind, saves, takes, a repeated take and restarts, of what was saved and of what was not.
+// An edit of each kind, saves, takes, a repeated take and restarts, of what was saved and of what
+// was not.
 const STEPS: [Step; 12] = [
     Step::AddMarker(0, 1, "News at nine o'clock"),
     Step::Retitle(0, "Late in the evening"),
@@ -84,7 +86,8 @@ fn is_marker<M: Allocator>(marker: Option<&MarkerView<M>>, at: u32, text: &str) 
     }
 }
 
-// Whether a session has the first marker with its new title, and beside it as many markers, of which the first is the second editor's.
+// Whether a session has the first marker with its new title, and beside it as many markers, of
+// which the first is the second editor's.
 fn shows<M: Allocator>(session: &Session<M>, others: usize) -> bool {
     let markers = session.markers.items();
     is_marker(markers.first(), 1, "Late in the evening")
@@ -112,7 +115,8 @@ fn is_sent<M: Allocator>(world: &World<M>, index: usize, replica: Replica, seq: 
     }
 }
 
-// Whether a world is the one that comes of the steps: the first editor lost the take that it had not saved.
+// Whether a world is the one that comes of the steps: the first editor lost the take that it had
+// not saved.
 fn is_wanted<M: Allocator + Clone>(world: &World<M>) -> bool {
     is_sent(world, 0, A, 1)
         && is_sent(world, 1, A, 2)
@@ -159,8 +163,8 @@ fn is_no_world_where_a_allocation_is_refused(rt: HostRuntime) {
     assert!(rt; refusals(rt.alloc(), &Run) > Some(50));
 }
 
-// What a history leaves: the stamps that were sent (clock, replica, number), and the markers of each
-// editor, with how many operations it holds back.
+// What a history leaves: the stamps that were sent (clock, replica, number), and the markers of
+// each editor, with how many operations it holds back.
 #[derive(Clone, Copy)]
 struct History<'h> {
     steps: &'h [Step],
@@ -229,7 +233,8 @@ const Y: (u32, &str) = (2, "Y");
 
 const Z: (u32, &str) = (1, "Z");
 
-// An unsaved marker is gone with a restart; a second take, and one of what was not sent, change nothing.
+// An unsaved marker is gone with a restart; a second take, and one of what was not sent, change
+// nothing.
 const RESTARTED: [Step; 7] = [
     Step::AddMarker(0, 1, "X"),
     Step::Restart(0),

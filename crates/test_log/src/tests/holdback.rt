@@ -1,5 +1,6 @@
-//! Operations that wait for others. What an offer answers and releases equals a definition for every item, worked out in mt_holdback's
-//! specs/Examples.antt; the cases of `radio view` show what waits, and tests/checks/chain.py releases a long chain. Here each call is met once, and each
+//! Operations that wait for others. What an offer answers and releases equals a definition for
+//! every item, worked out in mt_holdback's specs/Examples.antt; the cases of `radio view` show what
+//! waits, and tests/checks/chain.py releases a long chain. Here each call is met once, and each
 //! growth is refused.
 
 use mt_holdback::{HoldBack, HoldBackFault, Offered, Waits};
@@ -9,7 +10,8 @@ use std::alloc::{Allocator, Global};
 use std::test::Fail;
 use test_kit::{A, B, Refusing, add_track, marker, retitle};
 
-// Offers an item whose key is new, which is known from then on; one whose key is known is told as held.
+// Offers an item whose key is new, which is known from then on; one whose key is known is told as
+// held.
 fn offer_new<T: Waits + Drop, M: Allocator + Clone>(
     hold: &mut HoldBack<T, M>,
     item: T,

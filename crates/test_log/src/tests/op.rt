@@ -1,6 +1,7 @@
-//! What no clause says of titles, digests, gains, bodies and operations: that each call succeeds where there is memory and is refused where there is none, and
-//! numbers and digests from outside. What is a title, a gain, a digest or an operation, what it is refused for and how two compare, clauses say of every
-//! value; the cases of `radio edit` and `radio view` show it.
+//! What no clause says of titles, digests, gains, bodies and operations: that each call succeeds
+//! where there is memory and is refused where there is none, and numbers and digests from outside.
+//! What is a title, a gain, a digest or an operation, what it is refused for and how two compare,
+//! clauses say of every value; the cases of `radio edit` and `radio view` show it.
 
 use mt_op::laws::{
     compare_digests, compare_gains, compare_titles, equal_bodies, equal_ops, equal_titles,
@@ -229,7 +230,8 @@ fn cloned_title<M: Allocator + Clone>(memory: M, text: &str) -> Result<Title<M>,
     Title::new(memory, text)?.try_clone()
 }
 
-// A body of a title that took memory three times: for the title, and for a clone of it and of the body.
+// A body of a title that took memory three times: for the title, and for a clone of it and of the
+// body.
 fn cloned_body<M: Allocator + Clone>(memory: M, text: &str) -> Result<Body<M>, OpFault> {
     let title = cloned_title(memory, text)?;
     Body::AddMarker { at: 480, title }.try_clone()

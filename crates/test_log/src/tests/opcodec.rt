@@ -1,6 +1,7 @@
-//! What no clause says: logs that were worked out elsewhere, that every call succeeds where there is memory, and what is left where memory, a read or a write
-//! is refused. Which operation or log a text is, in which version, and what it is refused as, the clauses say of every one; the cases of `radio view`,
-//! `radio log`, `radio merge` and `radio edit` show it of each act and each refusal.
+//! What no clause says: logs that were worked out elsewhere, that every call succeeds where there
+//! is memory, and what is left where memory, a read or a write is refused. Which operation or log a
+//! text is, in which version, and what it is refused as, the clauses say of every one; the cases of
+//! `radio view`, `radio log`, `radio merge` and `radio edit` show it of each act and each refusal.
 mod latches;
 mod logs;
 mod merges;

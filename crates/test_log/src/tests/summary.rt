@@ -1,5 +1,7 @@
-//! What no clause says: that every call succeeds where there is memory and is refused where there is none, and that a count in a body takes none. Which
-//! message a body is, the clauses say of every one: the worked bodies are read here, and the cases of `radio have`, `radio lack` and `radio take` show others.
+//! What no clause says: that every call succeeds where there is memory and is refused where there
+//! is none, and that a count in a body takes none. Which message a body is, the clauses say of
+//! every one: the worked bodies are read here, and the cases of `radio have`, `radio lack` and
+//! `radio take` show others.
 use mt_stamp::{Dot, Stamp};
 use std::alloc::{Allocator, Global};
 use std::test::Fail;
@@ -129,8 +131,8 @@ fn is_empty_have(alloc: Global, body: &[u8]) -> Result<bool, MessageFault> {
     Ok(Message::read(alloc, body)? == empty)
 }
 
-// row: message_bodies
-// The worked bodies: a Have of nothing and a Bye; a byte alone, a replica of which nothing is said, no operation, a byte behind Bye.
+// row: message_bodies The worked bodies: a Have of nothing and a Bye; a byte alone, a replica of
+// which nothing is said, no operation, a byte behind Bye.
 #[test]
 fn reads_the_worked_bodies(rt: HostRuntime) {
     assert!(rt; is_empty_have(rt.alloc(), &[1, 0, 0, 0, 0]) == Ok(true));

@@ -21,7 +21,8 @@ enum Work {
     Run,
 }
 
-// Whether all is right: where no growth is refused, what comes of it; where one is refused in it, its answer and what it leaves. None where one is refused before.
+// Whether all is right: where no growth is refused, what comes of it; where one is refused in it,
+// its answer and what it leaves. None where one is refused before.
 fn is_right<M: Allocator + Copy>(memory: M, work: Work, tally: &Refusing<Global>) -> Option<bool> {
     match work {
         Work::AddOne => Some(is_added(memory, tally)),

@@ -1,4 +1,5 @@
-//! How a file is written: block by block, and with one growth. Which bytes it has, a clause says of every mix, and the cases of `radio render` show it.
+//! How a file is written: block by block, and with one growth. Which bytes it has, a clause says of
+//! every mix, and the cases of `radio render` show it.
 
 use mt_cuewrite::{BounceFault, Head, bounce};
 use mt_opcodec::{Latch, Log};
@@ -20,7 +21,8 @@ fn bounce_mix<M: Allocator, W: Write>(
     Some(bounce(memory, mix, session.markers.items(), &head, output))
 }
 
-// Writes the file of a session over the recording, of 24 bits on two channels. None where the file's parts are not made.
+// Writes the file of a session over the recording, of 24 bits on two channels. None where the
+// file's parts are not made.
 fn bounce_session<M: Allocator, W: Write>(
     memory: M,
     alloc: Global,
@@ -61,7 +63,8 @@ struct Written {
     asked: usize,
 }
 
-// What comes of writing the file of a log over this memory to a writer that fails behind so many writes.
+// What comes of writing the file of a log over this memory to a writer that fails behind so many
+// writes.
 fn write_log<M: Allocator>(memory: M, alloc: Global, log: &Log, good: usize) -> Option<Written> {
     let writer = FailingWriter::of_pieces(alloc, usize::MAX, good, ErrorKind::Other);
     let mut output = Latch::new(writer);
@@ -75,7 +78,8 @@ fn write_log<M: Allocator>(memory: M, alloc: Global, log: &Log, good: usize) -> 
     })
 }
 
-// Whether a file is not written, and the writer is not asked again behind the write of this number, which fails.
+// Whether a file is not written, and the writer is not asked again behind the write of this number,
+// which fails.
 fn fails_after(alloc: Global, log: &Log, good: usize) -> bool {
     match write_log(alloc, alloc, log, good) {
         Some(written) => {

@@ -1,4 +1,5 @@
-//! What is taken to a mix. Each sample and each refusal is said by a clause of every mix, and the cases of `radio render` compare whole files.
+//! What is taken to a mix. Each sample and each refusal is said by a clause of every mix, and the
+//! cases of `radio render` compare whole files.
 
 mod blocks;
 mod fades;
@@ -44,7 +45,8 @@ pub(super) fn is_added<M: Allocator + Copy>(memory: M, tally: &Refusing<Global>)
     }
 }
 
-/// Whether five recordings of two digests are there once they are added; none where an allocation fails.
+/// Whether five recordings of two digests are there once they are added; none where an allocation
+/// fails.
 pub(super) fn are_added<M: Allocator + Copy>(memory: M, tally: &Refusing<Global>) -> bool {
     let files = [RECORDING, ONE_FRAME, RECORDING, ONE_FRAME, RECORDING];
     let mut catalogue = Catalogue::new(memory);
@@ -100,7 +102,8 @@ fn fill(mix: &Mix<'_, '_>, first: u64, samples: &mut [i32]) -> bool {
     true
 }
 
-/// Whether that of the clip is as long as it is, or fails where an allocation does; none where an allocation of the session fails.
+/// Whether that of the clip is as long as it is, or fails where an allocation does; none where an
+/// allocation of the session fails.
 pub(super) fn is_mixed<M: Allocator + Copy>(memory: M, tally: &Refusing<Global>) -> Option<bool> {
     let session = session_of(memory, VOICE)?;
     let length = length_of(memory, &session);

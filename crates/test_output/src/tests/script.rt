@@ -1,5 +1,5 @@
-//! Whole scripts. What each line makes, and which one is refused, the clauses say of every script, and the cases of `radio edit` show
-//! of every form.
+//! Whole scripts. What each line makes, and which one is refused, the clauses say of every script,
+//! and the cases of `radio edit` show of every form.
 use mt_opcodec::Log;
 use mt_replica::{Editor, EditorFault};
 use mt_script::{ScriptFault, run};

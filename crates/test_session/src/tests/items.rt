@@ -1,5 +1,7 @@
-//! What the ready ones of some operations leave of each item, with each growth refused in turn. What is answered of whatever was noted, the clauses say; the
-//! cases of `radio view` show the sessions that come of it, and those of `radio log` which act may be named as what. The tests of editors note operations one by one.
+//! What the ready ones of some operations leave of each item, with each growth refused in turn.
+//! What is answered of whatever was noted, the clauses say; the cases of `radio view` show the
+//! sessions that come of it, and those of `radio log` which act may be named as what. The tests of
+//! editors note operations one by one.
 
 ghost use Rattle.std.specs.Prelude.{◌≡◌, ◌<◌, ◌+◌, IsTrue, map, drop, length};
 ghost use Rattle.mt_stamp.specs.Sorting.{RisesStrictly};
@@ -11,8 +13,8 @@ use session_state::{ItemStates, items_of_ready};
 use std::alloc::{AllocError, Allocator, Global};
 use test_kit::{A, Refusing, add_track, marker, removal, retitle};
 
-// The stamp of an operation, counted from 1: a marker, a new title, its removal and its return, a track, and a clip on it. The last moves the track behind one that is
-// missing, and is not ready.
+// The stamp of an operation, counted from 1: a marker, a new title, its removal and its return, a
+// track, and a clip on it. The last moves the track behind one that is missing, and is not ready.
 fn stamp(number: u64) -> Option<Stamp> {
     Stamp::new(number, A, number).ok()
 }
@@ -30,7 +32,8 @@ fn clip_on<M: Allocator>(track: Stamp) -> Body<M> {
     }
 }
 
-// The operation of this number and stamp, where the marker, the track and the missing one have these.
+// The operation of this number and stamp, where the marker, the track and the missing one have
+// these.
 fn made<M: Allocator>(
     memory: M,
     number: u64,
@@ -72,7 +75,8 @@ fn push_ops<M: Allocator + Copy>(ops: &mut Vec<Op<M>, M>, memory: M) -> Option<(
 // Whether an operation's stamp is smaller than the next one's, where there is a next one.
 fn is_before_next<M: Allocator>(ops: &[&Op<M>], i: usize) -> bool
     requires { i < length ops.now }
-    ensures { IsTrue result → RisesStrictly op_cmp (map (λ o. o.now) (drop (i + 1) ops.now)) → RisesStrictly op_cmp (map (λ o. o.now) (drop i ops.now)) }
+    ensures { IsTrue result → RisesStrictly op_cmp (map (λ o. o.now) (drop (i + 1) ops.now))
+        → RisesStrictly op_cmp (map (λ o. o.now) (drop i ops.now)) }
 {
     if i + 1 < ops.len() {
         let next = ops[i + 1].stamp();

@@ -1,4 +1,5 @@
-//! Sessions of a few operations. Which session a log has and what its text is, the clauses say of every log; the cases of `radio view` show it.
+//! Sessions of a few operations. Which session a log has and what its text is, the clauses say of
+//! every log; the cases of `radio view` show it.
 
 mod changes;
 mod texts;
@@ -11,8 +12,8 @@ use std::alloc::{Allocator, Global};
 use std::test::Fail;
 use test_kit::{A, B, Refusing, add_track, marker, retitle};
 
-/// An operation of the tests: a track `Voice` that is moved, its clip, a marker `News`, its title `Late`, and a title of a marker that no
-/// test has.
+/// An operation of the tests: a track `Voice` that is moved, its clip, a marker `News`, its title
+/// `Late`, and a title of a marker that no test has.
 #[derive(Clone, Copy)]
 pub enum Item {
     Voice,

@@ -1,4 +1,5 @@
-//! Lengths of cue points: one that is cut short is none, and the first of a name counts. What a count or a size tells beyond the bytes is not there.
+//! Lengths of cue points: one that is cut short is none, and the first of a name counts. What a
+//! count or a size tells beyond the bytes is not there.
 
 use crate::tests::bwfread::{file, pcm};
 use mt_bwfread::Wave;

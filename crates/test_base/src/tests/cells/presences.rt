@@ -193,8 +193,8 @@ fn some_of(stamps: &[Stamp], count: usize) -> &[Stamp] {
     stamps.get(..count).unwrap_or(stamps)
 }
 
-// row: refused_growths
-// Of many tags that are given or copied, and of two sets of each presence that are joined; none without marks, and none of two tags that are removed and copied.
+// row: refused_growths Of many tags that are given or copied, and of two sets of each presence that
+// are joined; none without marks, and none of two tags that are removed and copied.
 #[test]
 fn refuses_each_allocation(rt: HostRuntime) -> Result<(), Fail> {
     let (ours, theirs) = (falling(A)?, falling(B)?);

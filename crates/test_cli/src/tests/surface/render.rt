@@ -45,7 +45,8 @@ pub fn mixes<'c, 'a>(
 
 pub fn fills(mix: &Mix<'_, '_, Global>, first: u64, samples: &mut [i32]) -> (Format, u64)
     requires whole { length samples.old % mix.now.layout.channels ≡ 0 }
-    requires within { first + length samples.old / mix.now.layout.channels ≤ length_of mix.now.tracks }
+    requires within { first + length samples.old / mix.now.layout.channels
+        ≤ length_of mix.now.tracks }
 {
     mix.block(first, samples);
     (mix.format(), mix.length())

@@ -1,5 +1,5 @@
-//! Seventeen operations with all bodies, which an editor makes or takes, some of them early: what it answers, what it keeps, and what is left of it where an allocation
-//! fails.
+//! Seventeen operations with all bodies, which an editor makes or takes, some of them early: what
+//! it answers, what it keeps, and what is left of it where an allocation fails.
 
 use super::histories::{Answer, counts, edit, is_alike, take};
 use super::operations::{Act, Name, op_of};
@@ -30,7 +30,8 @@ fn placing(step: u64) -> Result<Act, StampFault> {
     })
 }
 
-// Those after them: the tracks change places, that of the clip is removed and returns, the clip is trimmed and muted.
+// Those after them: the tracks change places, that of the clip is removed and returns, the clip is
+// trimmed and muted.
 fn changing(step: u64) -> Result<Act, StampFault> {
     let (first, second, clip) = (made_at(1)?, made_at(2)?, made_at(3)?);
     Ok(match step {
@@ -44,7 +45,8 @@ fn changing(step: u64) -> Result<Act, StampFault> {
     })
 }
 
-// The last: a marker, which then moves, fades of the clip, and a length of the marker; a third track, and a clip on it.
+// The last: a marker, which then moves, fades of the clip, and a length of the marker; a third
+// track, and a clip on it.
 fn adding(step: u64) -> Result<Act, StampFault> {
     let (clip, marker, third) = (made_at(3)?, made_at(12)?, made_at(16)?);
     Ok(match step {
@@ -74,7 +76,8 @@ enum Way {
     Edit,
 }
 
-// The operation that comes as this one. What is taken comes in another order: the move of the marker before the marker, and the last clip before its track.
+// The operation that comes as this one. What is taken comes in another order: the move of the
+// marker before the marker, and the last clip before its track.
 fn step_of(way: Way, number: u64) -> u64 {
     match (way, number) {
         (Way::Take, 12) => 13,
@@ -100,7 +103,8 @@ fn answer_to<M: Allocator + Copy>(
     }
 }
 
-// Whether it answers what it has to: an edit makes the operation of its stamp, and what is taken early is held until what it names comes.
+// Whether it answers what it has to: an edit makes the operation of its stamp, and what is taken
+// early is held until what it names comes.
 fn is_answer(way: Way, number: u64, answer: &Result<Answer, EditorFault>) -> bool {
     let Ok(stamp) = made_at(number) else {
         return false;
@@ -166,14 +170,16 @@ fn has_failed<M: Allocator + Copy>(editor: &mut Editor<M>) -> bool {
     again == Some(EditorFault::Failed) && editor.log().is_none() && editor.session().is_none()
 }
 
-// The operations come in this way, and after each the session is made from nothing where it is to be compared.
+// The operations come in this way, and after each the session is made from nothing where it is to
+// be compared.
 #[derive(Clone, Copy)]
 struct Steps {
     way: Way,
     compares: bool,
 }
 
-// Whether all are answered so, and leave the editor of the log of all; where an allocation fails in a call, whether it answers `Memory` and has then failed.
+// Whether all are answered so, and leave the editor of the log of all; where an allocation fails in
+// a call, whether it answers `Memory` and has then failed.
 impl Work for Steps {
     fn name(&self) -> Replica {
         match self.way {

@@ -1,4 +1,5 @@
-//! Copies and drafts of an editor, with each growth refused in turn: what they do leaves it as it was.
+//! Copies and drafts of an editor, with each growth refused in turn: what they do leaves it as it
+//! was.
 
 ghost use Rattle.std.specs.Prelude.{◌≢◌, None};
 

@@ -34,8 +34,8 @@ fn has_text<M: Allocator + Clone>(alloc: Global, editor: &Editor<M>, text: &str)
     is_written && output.into_inner().as_slice() == text.as_bytes()
 }
 
-// Operations in the order of a number, and the text of their session. The numbers below the product of 1
-// to their count are all orders; 0 is the one in which they are listed.
+// Operations in the order of a number, and the text of their session. The numbers below the product
+// of 1 to their count are all orders; 0 is the one in which they are listed.
 #[derive(Clone, Copy)]
 struct Example<'o> {
     ops: &'o [(Stamp, Act)],

@@ -17,8 +17,8 @@ pub(crate) enum Step {
     Edit(Act),
 }
 
-/// What comes of a step: what became of the operation, and how many became ready by it; the stamp of the one that an edit made, and
-/// the tag that it lists where it removes by one.
+/// What comes of a step: what became of the operation, and how many became ready by it; the stamp
+/// of the one that an edit made, and the tag that it lists where it removes by one.
 #[derive(Clone, Copy, PartialEq, Eq)]
 pub(crate) enum Answer {
     Already,
@@ -197,7 +197,8 @@ pub(crate) fn is_history(alloc: Global, rows: &[Row]) -> bool {
     is_done(alloc, &History { name, marker, rows })
 }
 
-/// The same of an editor of this name that begins with the log of a marker `News` at 480 of this stamp.
+/// The same of an editor of this name that begins with the log of a marker `News` at 480 of this
+/// stamp.
 pub(crate) fn goes_on_with(alloc: Global, name: Replica, stamp: Stamp, rows: &[Row]) -> bool {
     let marker = Some(stamp);
     is_done(alloc, &History { name, marker, rows })

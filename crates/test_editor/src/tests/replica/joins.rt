@@ -15,8 +15,8 @@ const MARKERS: u64 = 1000;
 // How many growths a take or an edit of a new title is given.
 const GROWTHS: u64 = 64;
 
-// What is asked for among the markers: a take of a new title of the first one, by B, or an edit of the same after that, or a
-// session that is made from nothing.
+// What is asked for among the markers: a take of a new title of the first one, by B, or an edit of
+// the same after that, or a session that is made from nothing.
 #[derive(Clone, Copy, PartialEq, Eq)]
 enum Work {
     Take,
@@ -90,7 +90,8 @@ fn is_prepared<M: Allocator + Copy>(editor: &mut Editor<M>, memory: M, work: Wor
         && (work != Work::Edit || done(editor, memory, Work::Take).is_ok())
 }
 
-// How many growths were asked for before the work, by how much the work raised the count of joins, and what came of it.
+// How many growths were asked for before the work, by how much the work raised the count of joins,
+// and what came of it.
 #[derive(Clone, Copy)]
 struct Cost {
     before: u64,
@@ -117,7 +118,8 @@ fn cost_to<M: Allocator + Copy>(
     })
 }
 
-// The same of an editor of A that begins with the empty log; none where it is refused memory before the work.
+// The same of an editor of A that begins with the empty log; none where it is refused memory before
+// the work.
 fn cost_of<M: Allocator + Copy>(memory: M, tally: &Refusing<Global>, work: Work) -> Option<Cost> {
     match Editor::from_log(memory, A, Log::new(memory)) {
         Ok(mut editor) => cost_to(&mut editor, memory, tally, work),
@@ -156,7 +158,8 @@ fn is_over(alloc: Global, at: u64, work: Work) -> bool {
     }
 }
 
-// How many growths it takes, each of which is refused in turn; none where they are over 64, or it does not join one cell.
+// How many growths it takes, each of which is refused in turn; none where they are over 64, or it
+// does not join one cell.
 fn allocs_of(alloc: Global, work: Work) -> Option<u64> {
     let before = allocs_before(alloc, work, 1)?;
     for more in 0..GROWTHS.saturating_add(1) {
@@ -181,7 +184,8 @@ fn gives_a_title_at_the_cost_of_one_cell(rt: HostRuntime) -> Result<(), Fail> {
     Ok(())
 }
 
-// Whether a session that is made from nothing joins nothing, and fails at the allocation after as many as a title takes.
+// Whether a session that is made from nothing joins nothing, and fails at the allocation after as
+// many as a title takes.
 fn scratch_takes_more(alloc: Global) -> bool {
     match allocs_before(alloc, Work::Scratch, 0) {
         Some(before) => is_refused(alloc, before.saturating_add(GROWTHS), Work::Scratch),

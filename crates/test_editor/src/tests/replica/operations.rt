@@ -24,8 +24,9 @@ fn text(name: Name) -> &'static str {
     }
 }
 
-/// What an operation or a change does. A Remove of an operation lists the item's first tag, and `RemoveBoth` a second one too. A marker
-/// is added at 480, and the last one, which no operation is, at the last frame.
+/// What an operation or a change does. A Remove of an operation lists the item's first tag, and
+/// `RemoveBoth` a second one too. A marker is added at 480, and the last one, which no operation
+/// is, at the last frame.
 #[derive(Clone, Copy)]
 pub(crate) enum Act {
     AddTrack(Option<Stamp>),

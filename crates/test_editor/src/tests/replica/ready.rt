@@ -1,4 +1,5 @@
-//! Which operations became ready by one that was taken, in small and in a long chain, and how many tags a removal lists.
+//! Which operations became ready by one that was taken, in small and in a long chain, and how many
+//! tags a removal lists.
 
 use crate::tests::works::{Work, is_done};
 use mt_op::{Body, Op};
@@ -15,7 +16,8 @@ fn applied<M: Allocator>(memory: M, stamps: &[Stamp]) -> Option<Taken<M>> {
     Some(Taken::Applied(List::new(rising)))
 }
 
-// Whether an editor who takes a title before its marker is told of both, in the order of their stamps.
+// Whether an editor who takes a title before its marker is told of both, in the order of their
+// stamps.
 fn tells_of_both<M: Allocator + Copy>(editor: &mut Editor<M>, memory: M) -> Option<bool> {
     let (item, early) = (Stamp::new(1, A, 1).ok()?, Stamp::new(2, B, 1).ok()?);
     let held = editor.take(retitle(memory, early, item, "Late").ok()?);
@@ -25,7 +27,8 @@ fn tells_of_both<M: Allocator + Copy>(editor: &mut Editor<M>, memory: M) -> Opti
     Some(is_held && are_ready && shows(editor, Some("Late"), 0))
 }
 
-// Whether an editor's session has no marker, or one of this title, and holds back so many operations.
+// Whether an editor's session has no marker, or one of this title, and holds back so many
+// operations.
 fn shows<M: Allocator + Copy>(editor: &Editor<M>, title: Option<&str>, held: u64) -> bool {
     match editor.session() {
         Some(session) => {
@@ -54,7 +57,8 @@ fn ready_by<M: Allocator + Copy>(editor: &mut Editor<M>, memory: M, number: u64)
     }
 }
 
-// How many tracks were held, taken from the last to the first, and how many then became ready at once.
+// How many tracks were held, taken from the last to the first, and how many then became ready at
+// once.
 fn taken_backwards<M: Allocator + Copy>(
     editor: &mut Editor<M>,
     memory: M,

@@ -10,7 +10,8 @@ use mt_sync::{MessageFault, Side, SyncFault, TalkFault, exchange, take_ops};
 use std::alloc::{Allocator, Global};
 use test_kit::{A, B, Refusing, log_of};
 
-// Whether an editor that takes operations out of bytes has so many then. Where it is refused memory, it has those that it had or has failed.
+// Whether an editor that takes operations out of bytes has so many then. Where it is refused
+// memory, it has those that it had or has failed.
 fn takes<M: Allocator + Copy>(
     memory: M,
     alloc: Global,
@@ -75,7 +76,8 @@ fn takes_a_few<M: Allocator + Copy>(
     })
 }
 
-// The stamps of four operations of one replica, of which another editor lacks the third, and of one of another replica.
+// The stamps of four operations of one replica, of which another editor lacks the third, and of one
+// of another replica.
 fn stamps() -> Option<[Stamp; 5]> {
     Some([
         Stamp::new(1, A, 1).ok()?,

@@ -38,7 +38,8 @@ pub(super) struct Conversation<'s> {
     wanted: Outcome,
 }
 
-// The number of its refusal, or 255, and how many bytes it has written, if they are those that it has to write.
+// The number of its refusal, or 255, and how many bytes it has written, if they are those that it
+// has to write.
 fn conversed<M: Allocator + Copy>(
     memory: M,
     alloc: Global,
@@ -80,7 +81,8 @@ impl Work for Conversation<'_> {
     }
 }
 
-// What is to come of so many bytes that were read: the answer follows the other's Have, what that one lacks its Bye, and the marker is taken with its message.
+// What is to come of so many bytes that were read: the answer follows the other's Have, what that
+// one lacks its Bye, and the marker is taken with its message.
 fn after(side: Side, number: u8, count: usize) -> Outcome {
     let (written, has_it) = match side {
         Side::Caller => (if count < 14 { 37 } else { 93 }, true),
@@ -117,7 +119,8 @@ fn converses_over_a_reader_and_a_writer(rt: HostRuntime) {
     }
 }
 
-// Whether an end is refused where its input ends behind so many bytes, and where the read of that number fails.
+// Whether an end is refused where its input ends behind so many bytes, and where the read of that
+// number fails.
 fn is_cut(alloc: Global, side: Side, end: usize) -> bool {
     let ends = Conversation {
         stream: told_to(side).get(..end).unwrap_or(&[]),

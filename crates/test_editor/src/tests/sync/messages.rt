@@ -1,5 +1,6 @@
-//! Operations of a message that join an editor's log: one by one where they are few and follow, as a whole where not. Its joins tell
-//! which way it was: they are counted from 0 by an editor that is made anew.
+//! Operations of a message that join an editor's log: one by one where they are few and follow, as
+//! a whole where not. Its joins tell which way it was: they are counted from 0 by an editor that is
+//! made anew.
 use super::held;
 use crate::tests::works::{Work, is_done};
 use mt_opcodec::Log;
@@ -30,7 +31,8 @@ fn lack_of<M: Allocator + Copy>(
     Some(lack_bytes(memory, &log, have))
 }
 
-/// What one of markers of the first stamps sends to one of markers of the others: the message, and Bye.
+/// What one of markers of the first stamps sends to one of markers of the others: the message, and
+/// Bye.
 pub(super) fn ops_for<M: Allocator + Copy>(
     memory: M,
     own: &[Stamp],
@@ -42,7 +44,8 @@ pub(super) fn ops_for<M: Allocator + Copy>(
     }
 }
 
-// What came of a message: the refusal's number, how many operations the editor has, and how many cells it has joined since it was made.
+// What came of a message: the refusal's number, how many operations the editor has, and how many
+// cells it has joined since it was made.
 type Joined = (u8, Option<usize>, u64);
 
 // What an editor comes to that is told a message.
@@ -94,7 +97,8 @@ pub(super) fn log_before<M: Allocator + Copy>(memory: M) -> Option<Log<M>> {
     log_of(&memory, &stamps).ok()
 }
 
-// Whether an editor that takes markers of these stamps one by one is refused as another was, and is then the same.
+// Whether an editor that takes markers of these stamps one by one is refused as another was, and is
+// then the same.
 fn is_alike<M: Allocator + Copy>(
     memory: M,
     beside: &mut Editor<M>,

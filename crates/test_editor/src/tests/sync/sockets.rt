@@ -1,4 +1,5 @@
-//! A conversation over a socket of this machine, in one process: the caller has written all that it sends before the answerer reads.
+//! A conversation over a socket of this machine, in one process: the caller has written all that it
+//! sends before the answerer reads.
 
 use super::{ANSWERER, CALLER, has_the_marker};
 use mt_opcodec::{Latch, Log};
@@ -10,7 +11,8 @@ use std::net::{Net, OpenListener, OpenStream, TcpListener, TcpStream};
 use std::test::Fail;
 use test_kit::B;
 
-// Answers over a stream, which is read and written by two handles of it, and tells whether the editor has the caller's marker then.
+// Answers over a stream, which is read and written by two handles of it, and tells whether the
+// editor has the caller's marker then.
 fn answers_by<S: Read + Write + OpenStream + Drop>(
     alloc: Global,
     editor: &mut Editor,

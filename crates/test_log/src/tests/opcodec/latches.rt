@@ -7,7 +7,8 @@ use test_kit::{ChokedWriter, FailingReader, FailingWriter, OneByteForEver, Refus
 
 const TEXT: &[u8] = b"a session of nine clips";
 
-// Whether a text is read as its first nine bytes and then the rest, nothing is left, and the latch has not failed.
+// Whether a text is read as its first nine bytes and then the rest, nothing is left, and the latch
+// has not failed.
 fn gives_in_pieces(input: &mut Latch<&[u8]>, alloc: Global) -> Result<bool, LatchFault> {
     let mut start = [0; 9];
     let first = input.get(&mut start)?;
@@ -56,8 +57,9 @@ fn numbers_its_refusals(rt: HostRuntime) {
     }
 }
 
-// Whether a failed read is what a reader is answered as that fails after so many, at first and at two further reads, and the
-// latch has failed from the first one on, which is the last that the reader was asked for.
+// Whether a failed read is what a reader is answered as that fails after so many, at first and at
+// two further reads, and the latch has failed from the first one on, which is the last that the
+// reader was asked for.
 fn fails_after_reads(alloc: Global, good: usize, kind: ErrorKind) -> bool {
     let mut input = Latch::new(FailingReader::new(good, kind));
     let first = input.get_all(alloc).err();
@@ -91,8 +93,8 @@ fn gives_a_thousand(input: &mut Latch<OneByteForEver>) -> bool {
     true
 }
 
-// What the rest of a text without end is answered as, whether the latch has then failed, and how often the reader was
-// asked. None where one of the first thousand reads gives no byte.
+// What the rest of a text without end is answered as, whether the latch has then failed, and how
+// often the reader was asked. None where one of the first thousand reads gives no byte.
 fn read_for_ever(alloc: Global) -> Option<(Option<LatchFault>, bool, usize)> {
     let mut input = Latch::new(OneByteForEver::new());
     if !gives_a_thousand(&mut input) {
@@ -108,9 +110,9 @@ fn fails_at_the_read_past_the_allowed_ones(rt: HostRuntime) {
     assert!(rt; read_for_ever(rt.alloc()) == Some((Some(LatchFault::Read), true, 16_777_216)));
 }
 
-// Whether a failed write is what a writer is answered as that fails after so many, at first and at two further writes, the
-// latch has failed from the first one on, which is the last that the writer was asked for, and the writer has the text's first
-// bytes.
+// Whether a failed write is what a writer is answered as that fails after so many, at first and at
+// two further writes, the latch has failed from the first one on, which is the last that the writer
+// was asked for, and the writer has the text's first bytes.
 fn fails_after_writes(alloc: Global, good: usize, kind: ErrorKind) -> bool {
     let mut output = Latch::new(FailingWriter::new(alloc, good, kind));
     let first = output.put(TEXT);
@@ -136,8 +138,8 @@ fn fails_at_the_first_failed_write(rt: HostRuntime) {
     }
 }
 
-// What a writer that takes nothing is answered as, at nothing and at the text, twice, whether the latch has failed after
-// each of the first two, and how often the writer was asked.
+// What a writer that takes nothing is answered as, at nothing and at the text, twice, whether the
+// latch has failed after each of the first two, and how often the writer was asked.
 fn choked() -> ([Result<(), LatchFault>; 3], [bool; 2], usize) {
     let mut output = Latch::new(ChokedWriter::new());
     let nothing = output.put(b"");
@@ -158,7 +160,8 @@ fn fails_where_no_byte_is_taken(rt: HostRuntime) {
     assert!(rt; choked() == ([Ok(()), fault, fault], [false, true], 1));
 }
 
-// How many bytes a latch gives, or its refusal, where the latch has then not failed, and less than the text is left.
+// How many bytes a latch gives, or its refusal, where the latch has then not failed, and less than
+// the text is left.
 fn read_whole(
     memory: &Refusing<Global>,
     alloc: Global,
@@ -192,8 +195,8 @@ fn refusals(alloc: Global, text: &[u8]) -> Option<u64> {
 }
 
 // row: refused_growths
-/// A refused growth is no failure of the reader: the latch stays sound, and what was not read yet is
-/// still there.
+/// A refused growth is no failure of the reader: the latch stays sound, and what was not read yet
+/// is still there.
 #[test]
 fn stays_sound_without_memory(rt: HostRuntime) -> Result<(), Fail> {
     let text = vec![in rt.alloc(); b'x'; 300_000]?;

@@ -22,8 +22,8 @@ const ONE_MARKER: [u8; 87] = [
     0x0c,
 ];
 
-// How many operations a log has that is read from a text and written as it again, where the first of them is that of the dot `(A, 1)`
-// and its copy is equal.
+// How many operations a log has that is read from a text and written as it again, where the first
+// of them is that of the dot `(A, 1)` and its copy is equal.
 fn count_of(alloc: Global, text: &[u8]) -> Result<Option<usize>, LogFault> {
     let log = Log::read(alloc, text)?;
     let first = Dot { replica: A, seq: 1 };

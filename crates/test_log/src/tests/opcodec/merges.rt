@@ -1,4 +1,5 @@
-//! Logs that are merged: in all groupings and orders, with another operation of one dot, and in several versions.
+//! Logs that are merged: in all groupings and orders, with another operation of one dot, and in
+//! several versions.
 use mt_opcodec::{Log, LogFault, read_op};
 use mt_stamp::Dot;
 use std::alloc::Global;

@@ -217,7 +217,8 @@ fn refusals_of_many(alloc: Global, work: Work, size: usize) -> Option<u64> {
     }
 }
 
-/// What each comes to, and how often it asks for memory at the least: for titles, for the logs and for their texts.
+/// What each comes to, and how often it asks for memory at the least: for titles, for the logs and
+/// for their texts.
 const OF_LOGS: [(Work, usize, u64); 4] = [
     (Work::Write, 625, 14),
     (Work::Merge, 11, 26),
@@ -241,7 +242,8 @@ fn refused_read(alloc: Global, text: &[u8]) -> (Option<LogFault>, u64) {
     (fault, memory.allocations())
 }
 
-// The text of a log of the first version, with this count and this record, and with the digest that belongs to them.
+// The text of a log of the first version, with this count and this record, and with the digest that
+// belongs to them.
 fn text_of(alloc: Global, count: u64, record: &[u8]) -> Result<Vec<u8>, AllocError> {
     let mut bytes = Vec::new(alloc);
     bytes.extend_from_slice(b"RMTS\x01")?;
@@ -253,7 +255,8 @@ fn text_of(alloc: Global, count: u64, record: &[u8]) -> Result<Vec<u8>, AllocErr
 }
 
 // row: damaged_logs_counts
-/// A count that no log can have is no reason to ask for memory: it is asked for one title, one operation in its run, and one run in the log.
+/// A count that no log can have is no reason to ask for memory: it is asked for one title, one
+/// operation in its run, and one run in the log.
 #[test]
 fn of_a_log_with_too_great_a_count(rt: HostRuntime) -> Result<(), Fail> {
     let text = text_of(rt.alloc(), u64::MAX, &text_of_numbered(rt.alloc(), 1)?)?;

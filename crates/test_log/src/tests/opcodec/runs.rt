@@ -1,4 +1,5 @@
-//! What takes memory to add to logs and to join them, with each growth refused in turn. Which log comes of it, and at which dot two clash, the clauses say of every log.
+//! What takes memory to add to logs and to join them, with each growth refused in turn. Which log
+//! comes of it, and at which dot two clash, the clauses say of every log.
 use mt_op::{Op, OpFault};
 use mt_opcodec::{Log, LogFault};
 use mt_stamp::{Replica, Stamp};
@@ -8,7 +9,8 @@ use test_kit::{A, B, Refusing, marker};
 /// A third replica.
 const C: Replica = Replica(12);
 
-/// A marker of this dot at a clock that follows its number. `Trailing` stands for what no marker here is refused as.
+/// A marker of this dot at a clock that follows its number. `Trailing` stands for what no marker
+/// here is refused as.
 fn op_of<M: Allocator>(memory: M, replica: Replica, seq: u64) -> Result<Op<M>, LogFault> {
     let stamp = Stamp::new(seq, replica, seq).map_err(|_| LogFault::Trailing)?;
     match marker(memory, stamp, "News at nine o'clock") {
@@ -80,8 +82,8 @@ fn added_twice<M: Allocator + Copy>(memory: M) -> (usize, bool, usize) {
     (first, are_kept, log.len())
 }
 
-// Whether one is refused memory where the growth number `at` is, those before it stand, and all are there once they were added
-// again.
+// Whether one is refused memory where the growth number `at` is, those before it stand, and all are
+// there once they were added again.
 fn goes_on_after(alloc: Global, at: u64) -> bool {
     let memory = Refusing::new(alloc, at);
     let (first, are_kept, count) = added_twice(&memory);
@@ -140,8 +142,8 @@ const LEFT: [(Replica, u64); 3] = [(A, 1), (A, 3), (B, 1)];
 
 const RIGHT: [(Replica, u64); 3] = [(A, 2), (B, 2), (C, 1)];
 
-// Adds so many logs to a list, each with two operations: of a replica of its own, so that its run is moved whole, or one that all have and one that
-// only it has.
+// Adds so many logs to a list, each with two operations: of a replica of its own, so that its run
+// is moved whole, or one that all have and one that only it has.
 fn push_logs<M: Allocator + Copy>(
     many: &mut Vec<Log<M>, M>,
     memory: M,

@@ -18,7 +18,8 @@ fn put_parts<M: Allocator>(
     bytes.extend_from_slice(&seq.to_be_bytes())
 }
 
-/// Appends the bytes of the operation `(9, B, 1)` that removes this count of tags of the item `(1, A, 1)`, up to the first tag.
+/// Appends the bytes of the operation `(9, B, 1)` that removes this count of tags of the item `(1,
+/// A, 1)`, up to the first tag.
 fn put_removal<M: Allocator>(bytes: &mut Vec<u8, M>, count: u16) -> Result<(), AllocError> {
     put_parts(bytes, 9, B, 1)?;
     bytes.push(8)?;

@@ -36,7 +36,8 @@ fn sum_up(before: u64, samples: &[i32]) -> u64 {
     sum
 }
 
-// The programme on two channels, in blocks of so many frames, as such a number; none where a block is not filled.
+// The programme on two channels, in blocks of so many frames, as such a number; none where a block
+// is not filled.
 fn in_blocks(mix: &Mix<'_, '_>, frames: usize) -> Option<u64> {
     let mut samples = [7; 20000];
     let (mut sum, mut done) = (0, 0);

@@ -1,4 +1,5 @@
-//! Clips at gains that fade in and out: each sample beside the formula as it stands, in 128 bits, which every way to it has to give.
+//! Clips at gains that fade in and out: each sample beside the formula as it stands, in 128 bits,
+//! which every way to it has to give.
 
 use super::fill;
 use mt_op::{Body, Digest, Gain, Op};
@@ -68,7 +69,8 @@ fn session_of(alloc: Global, source: Digest, played: Played) -> Option<Session> 
     from_scratch(alloc, &log).ok()
 }
 
-// Fills a block of the mix of a session over a recording, and tells whether it lies in the programme.
+// Fills a block of the mix of a session over a recording, and tells whether it lies in the
+// programme.
 fn sounds(
     alloc: Global,
     session: &Session,

@@ -1,5 +1,6 @@
-//! One entry of a session that is put in, with its growth refused. What is left of the session, and what it is to take an entry out, to move it and to give it other
-//! values, the clauses say; the tests of editors mend sessions by all of it.
+//! One entry of a session that is put in, with its growth refused. What is left of the session, and
+//! what it is to take an entry out, to move it and to give it other values, the clauses say; the
+//! tests of editors mend sessions by all of it.
 
 ghost use Rattle.std.specs.Prelude.{◌≡◌, [], IfOk};
 

@@ -32,7 +32,8 @@ fn front_of(written: &[u8]) -> Option<usize> {
     }
 }
 
-// What writing a session's text came to: the answer, whether the output failed, and how long a front of the text it has.
+// What writing a session's text came to: the answer, whether the output failed, and how long a
+// front of the text it has.
 type Written = (Result<(), SessionFault>, bool, Option<usize>);
 
 // Writes a session's text to an output that fails at the write of this number, each of one byte.
@@ -43,7 +44,8 @@ fn written(alloc: Global, session: &Session, good: usize) -> Written {
     (answer, failed, front_of(output.into_inner().written()))
 }
 
-// How many writes fail in turn, until the whole text is written; none where a failed write is answered otherwise.
+// How many writes fail in turn, until the whole text is written; none where a failed write is
+// answered otherwise.
 fn failed_writes(alloc: Global, session: &Session) -> Option<usize> {
     for good in 0..TEXT.len() {
         if written(alloc, session, good) != (Err(SessionFault::Write), true, Some(good)) {
