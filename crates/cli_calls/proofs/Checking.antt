@@ -6,7 +6,7 @@ use Rattle.mt_op.specs.OpValue.{Op}
 use Rattle.mt_opcodec.specs.LogValue.{operations}
 use Rattle.mt_sessionview.specs.SessionValue.{Session, Track, Marker}
 use Rattle.mt_render.specs.Alike.{over}
-use Rattle.mt_render.specs.FormatValue.{Layout}
+use Rattle.mt_render.specs.FormatValue.{Format}
 use Rattle.mt_render.specs.Sources.{Sources, found, sources_of}
 use Rattle.mt_cuewrite.specs.Head.{HeadText}
 use Rattle.text_check.specs.Played.{is_audible}
@@ -24,12 +24,12 @@ use Rattle.cli_calls.proofs.Headline.{render_alike}
 use Rattle.cli_calls.proofs.Keeping.{received_alike}
 
 -- only what is found under digests counts of the recordings
-pub warnings_same : (a b : Sources) → ((d : Digest) → found a d ≡ found b d) → (tracks : List Track) (layout : Layout) (markers : List Marker) (ops : List Op) → warnings_text (over tracks layout a) markers ops ≡ warnings_text (over tracks layout b) markers ops
+pub warnings_same : (a b : Sources) → ((d : Digest) → found a d ≡ found b d) → (tracks : List Track) (layout : Format) (markers : List Marker) (ops : List Op) → warnings_text (over tracks layout a) markers ops ≡ warnings_text (over tracks layout b) markers ops
 warnings_same a b same tracks layout markers ops = only_audible_are_told tracks layout a b markers ops (λ c _. same c.source)
 
 -- ---- of the recordings that are kept, and of all
 
-module _ (form : TextOptions) (layout : Layout) (head : HeadText) (session : Session) (ops : List Op) (kept texts : List (List ℕ)) (holds : HoldWanted (is_audible session.tracks) kept texts) where
+module _ (form : TextOptions) (layout : Format) (head : HeadText) (session : Session) (ops : List Op) (kept texts : List (List ℕ)) (holds : HoldWanted (is_audible session.tracks) kept texts) where
   abbrev same : HearAlike session kept texts
   same = received_alike session kept texts holds
 
@@ -45,7 +45,7 @@ module _ (form : TextOptions) (layout : Layout) (head : HeadText) (session : Ses
   checks_alike (Err _) checks = absurd checks
 
 -- what readers gave whose log and audible recordings these are
-pub turned : {R A : Type 0} (remaining : R → Option (List ℕ)) (form : TextOptions) (layout : Layout) (head : HeadText) (inputs : List (Latch R)) (p : Programme A) → GaveProgramme remaining inputs p
+pub turned : {R A : Type 0} (remaining : R → Option (List ℕ)) (form : TextOptions) (layout : Format) (head : HeadText) (inputs : List (Latch R)) (p : Programme A) → GaveProgramme remaining inputs p
     → (given : LogAndWaves) × (GaveLogAndWaves remaining inputs given × ((made : Result (List ℕ) CliFault) → ChecksProgramme form layout head p made → Checks form layout head given made))
 turned remaining form layout head [] p gave = absurd gave
 turned remaining form layout head (log ∷ files) p (gave, (is, (texts, (waves, holds)))) = (

@@ -17,7 +17,7 @@ use Rattle.mt_opcodec.proofs.JoiningAll.{none_first}
 use Rattle.mt_sessionview.specs.SessionValue.{Session}
 use Rattle.mt_sessionview.specs.Session.{session_of}
 use Rattle.mt_render.specs.declared.fault.MixFault.{MixFault}
-use Rattle.mt_render.specs.FormatValue.{Layout}
+use Rattle.mt_render.specs.FormatValue.{Format}
 use Rattle.mt_render.specs.Sources.{sources_of}
 use Rattle.mt_render.specs.Alike.{HasOneAnswer, MixAlike}
 use Rattle.mt_render.proofs.Alike.{turned, only_audible_count}
@@ -145,7 +145,7 @@ same_is_told logs others h agree =
 not_both : (n m : ℕ) → n < m → m ≤ n → ⊥
 not_both n m below above = omega (arith, below, above)
 
-module _ (session : Session) (layout : Layout) (head : HeadText) where
+module _ (session : Session) (layout : Format) (head : HeadText) where
   module _ (texts others : List (List ℕ)) (same : HearAlike session texts others) where
     abbrev mixes : MixAlike (programme session texts layout) (programme session others layout)
     mixes = only_audible_count session.tracks layout (sources_of texts) (sources_of others) same

@@ -9,7 +9,7 @@ use Rattle.mt_opcodec.specs.Union.{union_all, AllAgree, FirstConflict}
 use Rattle.mt_bwfread.specs.Wave.{IsWave, fault_of}
 use Rattle.mt_bwfread.specs.declared.fault.WaveFault.{WaveFault}
 use Rattle.mt_render.specs.declared.fault.MixFault.{MixFault}
-use Rattle.mt_render.specs.FormatValue.{Layout}
+use Rattle.mt_render.specs.FormatValue.{Format}
 use Rattle.mt_cuewrite.specs.Head.{HeadText}
 use Rattle.cli_calls.specs.declared.fault.CliFault.{CliFault}
 use Rattle.cli_calls.specs.declared.fault.CliFault.TheVariants as cli
@@ -108,7 +108,7 @@ module _ {R W : Type 0} (remaining : R → Option (List ℕ)) (contents : W → 
     }
 
   -- the file of logs and recordings
-  module _ (layout : Layout) (head : HeadText) (before after : Lent (RenderInputs R) (Latch W)) where
+  module _ (layout : Format) (head : HeadText) (before after : Lent (RenderInputs R) (Latch W)) where
     abbrev HasRendered : Result (Unit {0}) CliFault → Type 0
     HasRendered = RanOn (GaveLogsAndWaves remaining) (RenderCause remaining) (AreInputsRead remaining) (RendersLogs layout head) contents before after
 

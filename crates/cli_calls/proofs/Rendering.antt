@@ -7,7 +7,7 @@ use Rattle.mt_sessionview.specs.Session.{session_of}
 use Rattle.mt_sessionview.specs.SessionValue.{Session, Marker}
 use Rattle.mt_op.specs.declared.digest.Digest.{Digest}
 use Rattle.mt_render.specs.declared.fault.MixFault.TheVariants as mix_faults
-use Rattle.mt_render.specs.FormatValue.{Layout}
+use Rattle.mt_render.specs.FormatValue.{Format}
 use Rattle.mt_render.specs.Sources.{Sources, found, sources_of}
 use Rattle.mt_render.specs.Mix.{Programme}
 use Rattle.mt_render.specs.Refusals.{IsMixable}
@@ -36,7 +36,7 @@ use Rattle.cli_calls.proofs.Recordings.{HasSourceCause-memory}
 
 -- ---- of the recordings that are kept, and of all
 
-module _ (layout : Layout) (head : HeadText) (session : Session) (kept texts : List (List ℕ)) (holds : HoldWanted (is_audible session.tracks) kept texts) where
+module _ (layout : Format) (head : HeadText) (session : Session) (kept texts : List (List ℕ)) (holds : HoldWanted (is_audible session.tracks) kept texts) where
   abbrev alike : RenderAlike session session kept texts layout head
   alike = render_alike session layout head kept texts (received_alike session kept texts holds)
 
@@ -46,7 +46,7 @@ module _ (layout : Layout) (head : HeadText) (session : Session) (kept texts : L
   renders_alike (Err _) renders = absurd renders
 
 -- what readers gave whose session and audible recordings these are
-pub turned : {R A : Type 0} (remaining : R → Option (List ℕ)) (layout : Layout) (head : HeadText) (inputs : RenderInputs R) (m : Material A) → GaveMaterial remaining inputs m
+pub turned : {R A : Type 0} (remaining : R → Option (List ℕ)) (layout : Format) (head : HeadText) (inputs : RenderInputs R) (m : Material A) → GaveMaterial remaining inputs m
     → (given : LogsAndWaves) × (GaveLogsAndWaves remaining inputs given × ((made : Result (List ℕ) CliFault) → Renders layout head m.session m.kept.items made → RendersLogs layout head given made))
 turned remaining layout head inputs m (all, (union, (is, (texts, (waves, holds))))) =
     let session_is : m.session ≡ session_of_logs union.0 = is ∙ ap (λ (l : LogMap). session_of (operations l)) union.1.2 in (
@@ -63,7 +63,7 @@ pub no_memory : {R : Type 0} (remaining : R → Option (List ℕ)) (logs_old log
 no_memory remaining logs_old logs_new sources all union read = inr (union.0, (union.1.0, (read, (union.1.1, HasSourceCause-memory remaining (length logs_old) 0 sources))))
 
 -- what a mix over a catalogue of these recordings gives
-module _ (mix : Programme) (session : Session) (markers : List Marker) (catalogue : Sources) (texts : List (List ℕ)) (layout : Layout) (head : HeadText) (mix_is : mix ≡ record { tracks = session.tracks; sources = catalogue; layout = layout })
+module _ (mix : Programme) (session : Session) (markers : List Marker) (catalogue : Sources) (texts : List (List ℕ)) (layout : Format) (head : HeadText) (mix_is : mix ≡ record { tracks = session.tracks; sources = catalogue; layout = layout })
     (markers_are : markers ≡ session.markers) (same : (d : Digest) → found catalogue d ≡ found (sources_of texts) d) where
   abbrev over : Programme
   over = record { tracks = session.tracks; sources = catalogue; layout = layout }

@@ -7,7 +7,7 @@ use Rattle.mt_sessionview.specs.SessionValue.{Session}
 use Rattle.mt_sessionview.specs.Session.{session_of}
 use Rattle.mt_render.specs.declared.fault.MixFault.{MixFault}
 use Rattle.mt_render.specs.declared.fault.MixFault.TheVariants as mix
-use Rattle.mt_render.specs.FormatValue.{Layout}
+use Rattle.mt_render.specs.FormatValue.{Format}
 use Rattle.mt_render.specs.Mix.{Programme}
 use Rattle.mt_render.specs.Refusals.{IsMixable, IsMixFault}
 use Rattle.mt_cuewrite.specs.Head.{HeadText}
@@ -23,7 +23,7 @@ use Rattle.mt_render.specs.Sources.{sources_of}
 use Rattle.cli_calls.specs.Sources.{GaveWaves, GaveKept, HasSourceCause}
 
 -- the programme of a session over recordings
-abbrev pub programme : Session → List (List ℕ) → Layout → Programme
+abbrev pub programme : Session → List (List ℕ) → Format → Programme
 programme session texts layout = record { tracks = session.tracks; sources = sources_of texts;
     layout = layout }
 
@@ -32,17 +32,17 @@ abbrev pub session_of_logs : List LogMap → Session
 session_of_logs logs = session_of (operations (union_all logs))
 
 -- A file is written where the programme can be mixed and the file is not too long.
-pub record CanBounce (session : Session) (texts : List (List ℕ)) (layout : Layout) (head : HeadText)
+pub record CanBounce (session : Session) (texts : List (List ℕ)) (layout : Format) (head : HeadText)
     : Type 0 where
   pub mixable : IsMixable (programme session texts layout)
   pub fits : Fits (programme session texts layout) session.markers head
 
 -- the file of a session, its recordings, a format and a head
-abbrev pub session_file : Session → List (List ℕ) → Layout → HeadText → List ℕ
+abbrev pub session_file : Session → List (List ℕ) → Format → HeadText → List ℕ
 session_file session texts layout head = file (programme session texts layout) session.markers head
 
 -- Why there is no such file: the programme cannot be mixed, or it can, and the file is too long.
-abbrev pub IsMixRefusal : Session → List (List ℕ) → Layout → HeadText → MixFault → Type 0
+abbrev pub IsMixRefusal : Session → List (List ℕ) → Format → HeadText → MixFault → Type 0
 IsMixRefusal session texts layout head fault =
     (fault ≢ mix.Memory)
     × (IsMixFault (programme session texts layout) fault
@@ -50,7 +50,7 @@ IsMixRefusal session texts layout head fault =
         × (2 ^ 32 ≤ length (riff (programme session texts layout) session.markers head))))
 
 -- `render`: what is made of a session and recordings, the file or why there is none
-abbrev pub Renders : Layout → HeadText → Session → List (List ℕ) → Result (List ℕ) CliFault → Type 0
+abbrev pub Renders : Format → HeadText → Session → List (List ℕ) → Result (List ℕ) CliFault → Type 0
 Renders layout head session texts (Ok bytes) = CanBounce session texts layout head
     × (bytes ≡ session_file session texts layout head)
 Renders layout head session texts (Err (Mix fault)) = IsMixRefusal session texts layout head fault
@@ -72,7 +72,7 @@ pub record LogsAndWaves : Type 0 where
   pub texts : List (List ℕ)
 
 -- `render`: what is made of these
-abbrev pub RendersLogs : Layout → HeadText → LogsAndWaves → Result (List ℕ) CliFault → Type 0
+abbrev pub RendersLogs : Format → HeadText → LogsAndWaves → Result (List ℕ) CliFault → Type 0
 RendersLogs layout head given = Renders layout head (session_of_logs given.logs) given.texts
 
 module _ {R : Type 0} (remaining : R → Option (List ℕ)) where

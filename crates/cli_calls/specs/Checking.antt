@@ -6,7 +6,7 @@ use Rattle.mt_op.specs.OpValue.{Op}
 use Rattle.mt_opcodec.specs.LogValue.{LogMap, operations}
 use Rattle.mt_sessionview.specs.SessionValue.{Session}
 use Rattle.mt_sessionview.specs.Session.{session_of}
-use Rattle.mt_render.specs.FormatValue.{Layout}
+use Rattle.mt_render.specs.FormatValue.{Format}
 use Rattle.mt_cuewrite.specs.Head.{HeadText}
 use Rattle.text_check.specs.Played.{is_audible}
 use Rattle.text_check.specs.WarningsText.{warnings_text}
@@ -20,13 +20,13 @@ use Rattle.cli_calls.specs.Reading.{GaveLog, IsRead, IsCause}
 use Rattle.cli_calls.specs.Sources.{GaveWaves, GaveKept, HasSourceCause}
 
 -- the text on a session of operations over recordings, in a format, in a form of lines
-abbrev pub warnings : TextOptions → Session → List Op → List (List ℕ) → Layout → List ℕ
+abbrev pub warnings : TextOptions → Session → List Op → List (List ℕ) → Format → List ℕ
 warnings form session ops texts layout = in_form form
     (warnings_text (programme session texts layout) session.markers ops)
 
 -- what is made of a session of operations and recordings: the text, where there would be a file, or
 -- why there would be none
-abbrev pub ChecksSession : TextOptions → Layout → HeadText → Session → List Op → List (List ℕ)
+abbrev pub ChecksSession : TextOptions → Format → HeadText → Session → List Op → List (List ℕ)
     → Result (List ℕ) CliFault → Type 0
 ChecksSession form layout head session ops texts (Ok bytes) = CanBounce session texts layout head
     × (bytes ≡ warnings form session ops texts layout)
@@ -40,7 +40,7 @@ pub record LogAndWaves : Type 0 where
   pub texts : List (List ℕ)
 
 -- `check`: what is made of these
-abbrev pub Checks : TextOptions → Layout → HeadText → LogAndWaves → Result (List ℕ) CliFault
+abbrev pub Checks : TextOptions → Format → HeadText → LogAndWaves → Result (List ℕ) CliFault
     → Type 0
 Checks form layout head given = ChecksSession form layout head (session_of (operations given.log))
     (operations given.log) given.texts
@@ -68,7 +68,7 @@ module _ {R : Type 0} (remaining : R → Option (List ℕ)) where
       (is_audible p.session.tracks) files p.kept.items)
   GaveProgramme [] p = ⊥
 
-abbrev pub ChecksProgramme : {A : Type 0} → TextOptions → Layout → HeadText → Programme A
+abbrev pub ChecksProgramme : {A : Type 0} → TextOptions → Format → HeadText → Programme A
     → Result (List ℕ) CliFault → Type 0
 ChecksProgramme form layout head p = ChecksSession form layout head p.session (operations p.log)
     p.kept.items

@@ -23,7 +23,7 @@ use Rattle.cli_calls.specs.declared.fault.LayFault.TheVariants as lay
 use Rattle.cli_calls.specs.declared.fault.CliFault.{CliFault}
 use Rattle.cli_calls.specs.declared.fault.CliFault.TheVariants.{Memory, Read, Log, Merge, Source}
 use Rattle.cli_calls.specs.declared.fault.CliFault.TheVariants.{Mix, Lay, Write, Part, Print, Name}
-use Rattle.cli_calls.specs.declared.fault.CliFault.TheVariants.{Digest, NoSuchItem, Head, Format}
+use Rattle.cli_calls.specs.declared.fault.CliFault.TheVariants.{Digest, NoSuchItem, Head, Format as FormatFault}
 use Rattle.cli_calls.specs.declared.fault.CliFault.TheVariants.{Script, Message, Sync, Net}
 
 -- A recording that is not laid is refused as a clip without a frame, a recording of another rate,
@@ -49,7 +49,7 @@ number_of (Name fault) = stamp_number fault
 number_of (Digest fault) = op_number fault
 number_of (NoSuchItem count) = 21
 number_of (Head fault) = 36
-number_of (Format fault) = 47
+number_of (FormatFault fault) = 47
 number_of (Script fault) = script_number fault
 number_of (Message fault) = message_number fault
 number_of (Sync fault) = sync_number fault

@@ -8,7 +8,7 @@ use Rattle.mt_opcodec.specs.Union.{union_all, AllAgree}
 use Rattle.mt_sessionview.specs.SessionValue.{Session}
 use Rattle.mt_replica.specs.EditorValue.{Editor, session_in}
 use Rattle.mt_render.specs.declared.fault.MixFault.{MixFault}
-use Rattle.mt_render.specs.FormatValue.{Layout}
+use Rattle.mt_render.specs.FormatValue.{Format}
 use Rattle.mt_render.specs.Sources.{sources_of}
 use Rattle.mt_render.specs.Alike.{FindAlike}
 use Rattle.mt_cuewrite.specs.Head.{HeadText}
@@ -48,7 +48,7 @@ pub record TellAlike (logs others : List LogMap) : Type 0 where
 
 -- The files of two sessions are one, and both are written or neither: then both are refused, for
 -- the same and for nothing else.
-pub record RenderAlike (session other : Session) (texts others : List (List ℕ)) (layout : Layout)
+pub record RenderAlike (session other : Session) (texts others : List (List ℕ)) (layout : Format)
     (head : HeadText) : Type 0 where
   pub file : session_file session texts layout head ≡ session_file other others layout head
   pub written : CanBounce session texts layout head ↔ CanBounce other others layout head
@@ -74,7 +74,7 @@ SameIsTold = (logs others : List LogMap) → HaveSame logs others → AllAgree l
 -- format and with one head.
 abbrev pub SameIsRendered : Type 0
 SameIsRendered =
-    (logs others : List LogMap) (texts other_texts : List (List ℕ)) (layout : Layout)
+    (logs others : List LogMap) (texts other_texts : List (List ℕ)) (layout : Format)
         (head : HeadText) → HaveSame logs others → AllAgree logs
     → HearAlike (session_of_logs logs) texts other_texts
         → RenderAlike (session_of_logs logs) (session_of_logs others) texts other_texts layout head

@@ -9,7 +9,7 @@ use Rattle.mt_opcodec.specs.Union.{union_all, AllAgree, FirstConflict}
 use Rattle.mt_bwfread.specs.Wave.{IsWave, fault_of}
 use Rattle.mt_bwfread.specs.declared.fault.WaveFault.{WaveFault}
 use Rattle.mt_render.specs.declared.fault.MixFault.{MixFault}
-use Rattle.mt_render.specs.FormatValue.{Layout}
+use Rattle.mt_render.specs.FormatValue.{Format}
 use Rattle.mt_cuewrite.specs.Head.{HeadText}
 use Rattle.cli_calls.specs.declared.fault.CliFault.{CliFault}
 use Rattle.cli_calls.specs.declared.fault.CliFault.TheVariants.{Merge, Source, Mix, Write}
@@ -43,7 +43,7 @@ pub record WritesUnion {R W : Type 0} (remaining : R → Option (List ℕ))
 
 -- the file of logs and recordings, as `bounce_logs` writes it
 pub record WritesFile {R W : Type 0} (remaining : R → Option (List ℕ))
-    (contents : W → Option (List ℕ)) (layout : Layout) (head : HeadText)
+    (contents : W → Option (List ℕ)) (layout : Format) (head : HeadText)
     (before after : Lent (RenderInputs R) (Latch W)) (result : Result (Unit {0}) CliFault) : Type 0
     where
   -- Where it answers Ok, the inputs gave logs that agree and wave files, and the file of the

@@ -6,7 +6,7 @@ ghost use Rattle.base_io.specs.Latch.{Latch};
 ghost use Rattle.mt_opcodec.specs.IsLog.{IsLog};
 ghost use Rattle.mt_opcodec.specs.Sets.{IsSet};
 ghost use Rattle.mt_cuewrite.specs.Head.{HeadText};
-ghost use Rattle.mt_render.specs.FormatValue.{Layout};
+ghost use Rattle.mt_render.specs.FormatValue.{Format};
 ghost use Rattle.cli_calls.specs.declared.fault.CliFault.{CliFault as Fault};
 ghost use Rattle.cli_calls.specs.Bouncing.{RenderInputs, RendersLogs, GaveLogsAndWaves};
 ghost use Rattle.cli_calls.specs.Bouncing.{RenderCause, AreInputsRead};
@@ -95,7 +95,7 @@ pub fn merge_logs<R: Read, W: Write>()
 /// cannot be mixed or whose file is too long, `Write` only of an output that has failed, and else
 /// nothing was written.
 pub fn bounce_logs<R: Read, W: Write>()
-    ensures { (layout : Layout) (head : HeadText) (before after : Lent (RenderInputs R) (Latch W))
+    ensures { (layout : Format) (head : HeadText) (before after : Lent (RenderInputs R) (Latch W))
         (result : Result (Unit {0}) Fault)
         → RanOn (GaveLogsAndWaves R.remaining) (RenderCause R.remaining) (AreInputsRead R.remaining)
             (RendersLogs layout head)
