@@ -2,13 +2,13 @@
 use Rattle.std.specs.Prelude.{ℕ, List}
 use Rattle.mt_opcodec.specs.LogValue.{LogMap, operations}
 use Rattle.mt_opcodec.specs.Union.{union_all}
-use Rattle.text_log.specs.LogText.{log_text}
+use Rattle.text_log.specs.LogText.{log_listing}
 use Rattle.cli_calls.specs.Form.{in_form}
 use Rattle.cli_calls.specs.declared.form.TextOptions.{TextOptions}
 
 -- the text of a log's operations
 abbrev pub log_list : LogMap → List ℕ
-log_list log = log_text (operations log)
+log_list log = log_listing (operations log)
 
 -- the same in a form
 abbrev pub list_in : TextOptions → LogMap → List ℕ

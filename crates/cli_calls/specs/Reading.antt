@@ -6,7 +6,7 @@ use Rattle.sha2.specs.Sha256.{sha256}
 use Rattle.mt_opcodec.specs.declared.fault.LogFault.TheVariants as log
 use Rattle.base_io.specs.Latch.{Latch, ConsumesPrefix}
 use Rattle.mt_op.specs.declared.digest.Digest.{Digest}
-use Rattle.mt_opcodec.specs.LogText.{log_text}
+use Rattle.mt_opcodec.specs.LogText.{log_bytes}
 use Rattle.mt_opcodec.specs.LogReading.{log_at, LogFails}
 use Rattle.mt_opcodec.specs.LogValue.{LogMap, operations}
 use Rattle.mt_opcodec.specs.IsLog.{IsLog}
@@ -16,7 +16,7 @@ use Rattle.cli_calls.specs.declared.fault.CliFault.TheVariants.{Memory, Read, Lo
 
 -- the one text of a log
 abbrev pub text_of : LogMap → List ℕ
-text_of m = log_text (operations m)
+text_of m = log_bytes (operations m)
 
 -- why the reader of an index was not read to its end: the latch has failed, or memory ran out
 abbrev pub IsReadCause : {R : Type 0} → ℕ → Latch R → CliFault → Type 0

@@ -20,7 +20,7 @@ use Rattle.mt_op.specs.Needs.{needs, meets, clock_of, names_are_older}
 use Rattle.mt_op.specs.Ready.{is_met, is_ready, ready}
 use Rattle.mt_op.specs.Valid.{IsOp}
 use Rattle.mt_op.proofs.Needs.{and_first, and_second, ready_is_defined}
-use Rattle.session_state.specs.Noting.{is_need_met}
+use Rattle.session_state.specs.Applying.{is_need_met}
 use Rattle.mt_opcodec.specs.LogValue.{AreLogged}
 use Rattle.mt_sessionview.specs.Session.{ready_ops, held_ops}
 use Rattle.mt_sessionview.proofs.Lists.{all_also, any_member, any_of, member_all, rises_kept}

@@ -2,7 +2,7 @@ pub mod Alike
 mod Ends
 mod HeldLines
 mod Adding
-mod Noting
+mod Applying
 pub mod Sounding
 mod Pieces
 mod Silent

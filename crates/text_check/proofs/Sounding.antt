@@ -5,7 +5,7 @@ use Rattle.mt_sessionview.specs.SessionValue.{Clip}
 use Rattle.mt_render.specs.Refusals.{IsAmong}
 use Rattle.text_check.specs.Files.{is_same}
 use Rattle.text_check.specs.Played.{is_played}
-use Rattle.text_check.proofs.Noting.{is_self}
+use Rattle.text_check.proofs.Applying.{is_self}
 
 -- the recording of a clip is played
 pub audible_is : (clips : List Clip) (c : Clip) → IsAmong c clips → is_played clips c.source ≡ true

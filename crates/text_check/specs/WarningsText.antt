@@ -13,7 +13,7 @@ use Rattle.mt_op.specs.ByStamp.{op_cmp}
 use Rattle.mt_op.specs.Digest.{digest_text}
 use Rattle.mt_op.specs.Needs.{needs}
 use Rattle.mt_op.specs.OpValue.{Op}
-use Rattle.session_state.specs.Noting.{is_need_met}
+use Rattle.session_state.specs.Applying.{is_need_met}
 use Rattle.mt_sessionview.specs.SessionValue.{Clip, Track, Marker}
 use Rattle.mt_sessionview.specs.Session.{ready_ops, held_ops}
 use Rattle.mt_sessionview.specs.SessionText.{newline}

@@ -4,7 +4,7 @@ ghost use Rattle.std.specs.Prelude.{◌≡◌, Some, None, slice_get, map, OnOk,
 ghost use Rattle.std.specs.List.{flat_map};
 ghost use Rattle.mt_op.specs.declared.need.Need.{Need as NeedOf};
 ghost use Rattle.mt_op.specs.Needs.{needs};
-ghost use Rattle.session_state.specs.Noting.{is_need_met};
+ghost use Rattle.session_state.specs.Applying.{is_need_met};
 ghost use Rattle.mt_opcodec.specs.LogValue.{operations};
 ghost use Rattle.text_check.specs.Lines.{with_lines};
 ghost use Rattle.text_check.specs.WarningsText.{first_unmet, waiting, held_of, held_lines};

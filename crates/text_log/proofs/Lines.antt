@@ -20,7 +20,7 @@ use Rattle.mt_sessionview.proofs.TrackSorting.{every_stamp}
 use Rattle.mt_replica.proofs.Bridging.{listed_member, member_listed}
 use Rattle.mt_replica.proofs.Making.{mapped_member}
 use Rattle.mt_sessionview.proofs.Lists.{one_of}
-use Rattle.text_log.specs.LogText.{line_of, op_line, count_line, log_text}
+use Rattle.text_log.specs.LogText.{line_of, op_line, count_line, log_listing}
 
 -- what is written of what each item gives
 pub of_each : {X Y : Type 0} (f : Y → List ℕ) (h : X → Y) (xs : List X) → flat_map f (map h xs) ≡ flat_map (λ x. f (h x)) xs
@@ -73,7 +73,7 @@ sorted_length (o ∷ ops) = inserted o (sort_by op_cmp ops) ∙ ap suc (sorted_l
 
 -- the lines of operations in order, told ready by the stamps of the ready ones, and their count are the text of the log
 pub text_is : (ops : List Op) → AreLogged ops → (ready : List Stamp) → ready ≡ sort_by stamp_cmp (stamps_of (ready_ops ops)) → (sorted : List Op) → sorted ≡ sort_by op_cmp ops → (count : ℕ) → count ≡ length sorted
-    → (old mid new : List ℕ) → mid ≡ old ++ flat_map (λ o. line_of (is_listed ready o.stamp) o) sorted → new ≡ mid ++ count_line count → new ≡ old ++ log_text ops
+    → (old mid new : List ℕ) → mid ≡ old ++ flat_map (λ o. line_of (is_listed ready o.stamp) o) sorted → new ≡ mid ++ count_line count → new ≡ old ++ log_listing ops
 text_is ops logged ready is_ready sorted is_sorted count is_count old mid new lines last =
     let told : List Stamp → Op → List ℕ = λ stamps o. line_of (is_listed stamps o.stamp) o in
     let same : flat_map (told ready) sorted ≡ flat_map (op_line ops) (sort_by op_cmp ops) =

@@ -80,5 +80,5 @@ op_line s o = line_of (is_ready clock_of needs meets s o) o
 abbrev pub count_line : ℕ → List ℕ
 count_line count = codes "operations " ++ (decimal count ++ newline ∷ [])
 
-abbrev pub log_text : List Op → List ℕ
-log_text s = flat_map (op_line s) (sort_by op_cmp s) ++ count_line (length s)
+abbrev pub log_listing : List Op → List ℕ
+log_listing s = flat_map (op_line s) (sort_by op_cmp s) ++ count_line (length s)

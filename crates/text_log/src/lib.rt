@@ -33,7 +33,7 @@
 
 mod act;
 mod line;
-mod log_text;
+mod log_listing;
 
 pub use act::append_act;
-pub use log_text::operations_text;
+pub use log_listing::operations_text;

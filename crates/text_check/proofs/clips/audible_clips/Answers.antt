@@ -1,6 +1,6 @@
 use Rattle.std.proofs.Common.{map, ◌++◌, ◌∙◌, ap}
 use Rattle.mt_render.specs.Refusals.{unmuted}
-use Rattle.text_check.proofs.Noting.{audible_more}
+use Rattle.text_check.proofs.Applying.{audible_more}
 use Rattle.text_check.proofs.clips.audible_clips.Goals as goal
 
 pub loop-track-preserved : goal.loop-track-preserved

@@ -1,5 +1,5 @@
 use Rattle.std.proofs.Common.{map}
-use Rattle.text_check.proofs.Noting.{unmuted_more}
+use Rattle.text_check.proofs.Applying.{unmuted_more}
 use Rattle.text_check.proofs.clips.push_unmuted.Goals as goal
 
 pub loop-clip-preserved : goal.loop-clip-preserved

@@ -2,7 +2,7 @@ use Rattle.std.proofs.Common.{◌≡◌, ◌+◌, ◌∙◌, [], ◌∷◌, ◌+
 use Rattle.std.proofs.lemmas.List.{take_more}
 use Rattle.text_check.specs.Files.{GivenFile}
 use Rattle.text_check.specs.Using.{wave_of, AreFirst}
-use Rattle.text_check.proofs.Noting.{file_kept, file_passed}
+use Rattle.text_check.proofs.Applying.{file_kept, file_passed}
 use Rattle.text_check.proofs.firsts.first_files.Goals as goal
 use Rattle.text_check.proofs.firsts.first_files.Goals.{in-Some+in_ok-keep_first, in_default}
 

@@ -3,7 +3,7 @@ use Rattle.std.specs.BTreeMap.{get}
 use Rattle.std.specs.String.{string_bytes}
 use Rattle.mt_render.specs.Sources.{digest_cmp}
 use Rattle.text_check.specs.SourcesText.{name_line}
-use Rattle.text_check.proofs.Noting.{text_more}
+use Rattle.text_check.proofs.Applying.{text_more}
 use Rattle.text_check.proofs.sources.append_names.Goals as goal
 
 pub loop-index-preserved : goal.loop-index-preserved

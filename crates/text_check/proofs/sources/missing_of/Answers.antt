@@ -2,7 +2,7 @@ use Rattle.std.proofs.Common.{arith}
 use Rattle.std.specs.BTreeMap.{get}
 use Rattle.std.specs.Option.{is_none}
 use Rattle.mt_render.specs.Sources.{digest_cmp}
-use Rattle.text_check.proofs.Noting.{filter_more}
+use Rattle.text_check.proofs.Applying.{filter_more}
 use Rattle.text_check.proofs.sources.missing_of.Goals as goal
 
 pub loop-index-preserved : goal.loop-index-preserved

@@ -7,7 +7,7 @@ use Rattle.mt_op.specs.declared.digest.Digest.{Digest}
 use Rattle.mt_sessionview.specs.SessionValue.{Clip}
 use Rattle.mt_render.specs.Sources.{digest_cmp}
 use Rattle.text_check.specs.Files.{is_same}
-use Rattle.text_check.proofs.Noting.{named_is}
+use Rattle.text_check.proofs.Applying.{named_is}
 use Rattle.text_check.proofs.uses.named_by.Goals as goal
 
 pub returns : goal.returns

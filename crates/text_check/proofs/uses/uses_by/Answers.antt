@@ -1,6 +1,6 @@
 use Rattle.std.proofs.Common.{[], map, take, sym, subst, rules}
 use Rattle.text_check.specs.Using.{AreUses}
-use Rattle.text_check.proofs.Noting.{clip_noted, audible_noted, few_clips, few_audible, item_more}
+use Rattle.text_check.proofs.Applying.{clip_noted, audible_noted, few_clips, few_audible, item_more}
 use Rattle.text_check.proofs.uses.uses_by.Goals as goal
 
 pub note_clip-requires : goal.note_clip-requires

@@ -5,7 +5,7 @@ use Rattle.mt_render.specs.Refusals.{audible}
 use Rattle.text_check.specs.declared.uses.Use.{Use}
 use Rattle.text_check.specs.Files.{is_same}
 use Rattle.text_check.specs.Played.{is_played}
-use Rattle.text_check.proofs.Noting.{some_kept}
+use Rattle.text_check.proofs.Applying.{some_kept}
 use Rattle.text_check.proofs.audible.Audible.of.Goals as goal
 
 pub returns : goal.returns

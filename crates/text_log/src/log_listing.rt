@@ -3,7 +3,7 @@
 ghost use Rattle.std.specs.Prelude.{◌≡◌, ◌++◌, IfOk, OnOk};
 ghost use Rattle.std.specs.String.{string_bytes};
 ghost use Rattle.mt_opcodec.specs.LogValue.{operations};
-ghost use Rattle.text_log.specs.LogText.{log_text};
+ghost use Rattle.text_log.specs.LogText.{log_listing};
 
 use crate::line::{append_count, append_lines};
 use mt_opcodec::Log;
@@ -17,7 +17,7 @@ fn append_log<A: Allocator + Clone, B: Allocator>(
     log: &Log<A>,
 ) -> Result<(), AllocError>
     ensures { OnOk result (string_bytes text.new ≡ string_bytes text.old
-        ++ log_text (operations log.now)) }
+        ++ log_listing (operations log.now)) }
 {
     // for the proof: that the dots of a log's operations differ
     let _ = log.runs();
@@ -40,7 +40,7 @@ pub fn operations_text<A: Allocator + Clone>(
     alloc: A,
     log: &Log<A>,
 ) -> Result<String<A>, AllocError>
-    ensures { IfOk result (λ text. string_bytes text ≡ log_text (operations log.now)) }
+    ensures { IfOk result (λ text. string_bytes text ≡ log_listing (operations log.now)) }
 {
     let mut text = String::new(alloc.clone()?);
     append_log(&alloc, &mut text, log)?;

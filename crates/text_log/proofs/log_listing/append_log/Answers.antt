@@ -7,7 +7,7 @@ use Rattle.mt_opcodec.specs.LogValue.{operations}
 use Rattle.mt_replica.proofs.Taking.{sorted_rise}
 use Rattle.mt_sessionview.specs.Session.{ready_ops, stamps_of}
 use Rattle.text_log.proofs.Lines.{text_is}
-use Rattle.text_log.proofs.log_text.append_log.Goals as goal
+use Rattle.text_log.proofs.log_listing.append_log.Goals as goal
 
 pub append_lines-requires : goal.append_lines-requires
 append_lines-requires g c = record { rise = sorted_rise (stamps_of (ready_ops (operations c.args.log.now))) c.deref-2.result.now (c.deref-2.ensures.value ∙ c.in-Ok.ensures.ok) }
