@@ -13,7 +13,7 @@ use Rattle.mt_op.specs.declared.value.Placement.{Placement}
 use Rattle.mt_op.specs.declared.value.TrimRange.{TrimRange}
 use Rattle.mt_op.specs.declared.value.FadeLengths.{FadeLengths}
 use Rattle.mt_op.specs.OpValue.{Body, AddTrack}
-use Rattle.mt_op.specs.Writes.{Value, Title, GainFields, Mute, TrackPlace, ClipPlace, Trim, Source, Position, Fades, MarkerLength, Write, sets, writes, or_later, first_of, title_in, gain_in, mute_in, track_place_in, clip_place_in, trim_in, source_in, position_in, fades_in, marker_length_in, title_written, gain_written, mute_written, track_place_written, clip_place_written, trim_written, source_written, position_written, fades_written, marker_length_written}
+use Rattle.mt_op.specs.Writes.{Value, Title, GainWritten, Mute, TrackPlace, ClipPlace, Trim, Source, Position, Fades, MarkerLength, Write, sets, writes, or_later, first_of, title_in, gain_in, mute_in, track_place_in, clip_place_in, trim_in, source_in, position_in, fades_in, marker_length_in, title_written, gain_written, mute_written, track_place_written, clip_place_written, trim_written, source_written, position_written, fades_written, marker_length_written}
 use Rattle.mt_op.specs.Laws.{IsFieldOf}
 use Rattle.mt_op.proofs.Needs.{and_first, and_second}
 
@@ -21,7 +21,7 @@ use Rattle.mt_op.proofs.Needs.{and_first, and_second}
 
 abbrev kind : Value → ℕ
 kind (Title title) = 0
-kind (GainFields gain) = 1
+kind (GainWritten gain) = 1
 kind (Mute on) = 2
 kind (TrackPlace after) = 3
 kind (ClipPlace place) = 4
@@ -83,12 +83,12 @@ title_made _ x e = absurd cc
 pub titles : IsFieldOf Title title_written
 titles = is_field Title title_in title_made (λ x. refl) (λ x y. refl)
 
-gain_made : (v : Value) (x : Gain) → gain_in v ≡ Some x → v ≡ GainFields x
-gain_made (GainFields y) x e = cc e
+gain_made : (v : Value) (x : Gain) → gain_in v ≡ Some x → v ≡ GainWritten x
+gain_made (GainWritten y) x e = cc e
 gain_made _ x e = absurd cc
 
-pub gains : IsFieldOf GainFields gain_written
-gains = is_field GainFields gain_in gain_made (λ x. refl) (λ x y. refl)
+pub gains : IsFieldOf GainWritten gain_written
+gains = is_field GainWritten gain_in gain_made (λ x. refl) (λ x y. refl)
 
 mute_made : (v : Value) (x : Bool) → mute_in v ≡ Some x → v ≡ Mute x
 mute_made (Mute y) x e = cc e

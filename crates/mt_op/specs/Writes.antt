@@ -17,7 +17,7 @@ use Rattle.mt_op.specs.Needs.{stamp_eq}
 -- a value of a field: the fields of tracks, of clips and of markers (profile)
 pub data Value : Type 0 where
   Title : List ℕ → Value
-  GainFields : Gain → Value
+  GainWritten : Gain → Value
   Mute : Bool → Value
   -- the place that a track stands after, none for the head
   TrackPlace : Option Stamp → Value
@@ -64,16 +64,16 @@ op_item own _ = own
 -- what each act writes, `own` being the operation's stamp (profile)
 abbrev pub writes : Stamp → Body → List (Write Value)
 writes own (AddTrack after title) = sets own (TrackPlace after) ∷ sets own (Title title)
-    ∷ sets own (GainFields unchanged) ∷ sets own (Mute false) ∷ []
+    ∷ sets own (GainWritten unchanged) ∷ sets own (Mute false) ∷ []
 writes own (MoveTrack track after) = sets track (TrackPlace after) ∷ []
 writes own (AddClip source track at offset len) = sets own
     (ClipPlace (record { track = track; at = at })) ∷ sets own
     (Trim (record { offset = offset; len = len })) ∷ sets own (Source source)
-    ∷ sets own (GainFields unchanged) ∷ sets own (Mute false) ∷ sets own (Fades no_fades) ∷ []
+    ∷ sets own (GainWritten unchanged) ∷ sets own (Mute false) ∷ sets own (Fades no_fades) ∷ []
 writes own (MoveClip clip track at) = sets clip (ClipPlace (record { track = track; at = at })) ∷ []
 writes own (TrimClip clip offset len) = sets clip (Trim (record { offset = offset; len = len }))
     ∷ []
-writes own (SetGain item gain) = sets item (GainFields gain) ∷ []
+writes own (SetGain item gain) = sets item (GainWritten gain) ∷ []
 writes own (SetMute item on) = sets item (Mute on) ∷ []
 writes own (AddMarker at title) = sets own (Position at) ∷ sets own (Title title)
     ∷ sets own (MarkerLength 0) ∷ []
@@ -99,7 +99,7 @@ title_in (Title title) = Some title
 title_in _ = None
 
 abbrev pub gain_in : Value → Option Gain
-gain_in (GainFields gain) = Some gain
+gain_in (GainWritten gain) = Some gain
 gain_in _ = None
 
 abbrev pub mute_in : Value → Option Bool

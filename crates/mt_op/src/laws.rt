@@ -41,7 +41,7 @@ pub fn more_operations()
 /// list.
 pub fn writes()
     ensures titles { IsFieldOf field.Title field.title_written }
-    ensures gains { IsFieldOf field.Gain field.gain_written }
+    ensures gains { IsFieldOf field.GainWritten field.gain_written }
     ensures mutes { IsFieldOf field.Mute field.mute_written }
     ensures track_places { IsFieldOf field.TrackPlace field.track_place_written }
     ensures clip_places { IsFieldOf field.ClipPlace field.clip_place_written }
@@ -72,7 +72,7 @@ pub fn last_write()
 /// there.
 pub fn last_writer()
     ensures titles { LastWriteIsGreatest field.Title field.title_written }
-    ensures gains { LastWriteIsGreatest field.Gain field.gain_written }
+    ensures gains { LastWriteIsGreatest field.GainWritten field.gain_written }
     ensures mutes { LastWriteIsGreatest field.Mute field.mute_written }
     ensures track_places { LastWriteIsGreatest field.TrackPlace field.track_place_written }
     ensures clip_places { LastWriteIsGreatest field.ClipPlace field.clip_place_written }

@@ -46,7 +46,7 @@ field_word field.MarkerLength = codes "length"
 -- the field that a value is of
 abbrev pub field_of : Value → Field
 field_of (value.Title title) = field.Title
-field_of (value.Gain gain) = field.Gain
+field_of (value.GainWritten gain) = field.Gain
 field_of (value.Mute on) = field.Mute
 field_of (value.TrackPlace after) = field.TrackPlace
 field_of (value.ClipPlace place) = field.ClipPlace

@@ -7,7 +7,7 @@ pub returns-clause-titles : goal.returns-clause-titles
 returns-clause-titles c = last_write_is_greatest field.Title field.title_written titles
 
 pub returns-clause-gains : goal.returns-clause-gains
-returns-clause-gains c = last_write_is_greatest field.Gain field.gain_written gains
+returns-clause-gains c = last_write_is_greatest field.GainWritten field.gain_written gains
 
 pub returns-clause-mutes : goal.returns-clause-mutes
 returns-clause-mutes c = last_write_is_greatest field.Mute field.mute_written mutes
