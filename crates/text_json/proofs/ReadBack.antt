@@ -10,9 +10,9 @@ use Rattle.json.proofs.Printed.Tokens.{tokens-print}
 use Rattle.json.proofs.Printed.Decimals.{IsNumber-decimal}
 use Rattle.serde_json.specs.Data.{Data, null, boolean, number, string, array, object, Items, item, Members, no_members, put}
 use Rattle.serde_json.specs.Read.{max_depth, of_json, of_items, of_members}
-use Rattle.serde_json.specs.Written.{header, items_header, members_header, compact_text}
+use Rattle.serde_json.specs.Written.{outline, items_outline, members_outline, compact_text}
 use Rattle.serde_json.proofs.Numbers.{number_of-decimal}
-use Rattle.serde_json.proofs.Texts.{print-header}
+use Rattle.serde_json.proofs.Texts.{print-outline}
 use Rattle.text_json.specs.declared.slot.Kind.{Kind}
 use Rattle.text_json.specs.declared.slot.Kind.TheVariants.{Plain, Number, Frames, Flag, Gain}
 use Rattle.text_json.specs.Line.{Value, alone, one, pair, rest, all, Part, parts}
@@ -22,9 +22,9 @@ use Rattle.text_json.proofs.Numbers.{read_so}
 
 -- data that is written and read back, and how deep it nests
 record Reads (deep : ℕ) (d : Data) : Type 0 where
-  same : of_json (header d) ≡ Some d
-  numbers : tree.HasNumbers (header d)
-  flat : tree.depth (header d) ≤ deep
+  same : of_json (outline d) ≡ Some d
+  numbers : tree.HasNumbers (outline d)
+  flat : tree.depth (outline d) ≤ deep
 
 choice : (deep : ℕ) (b : Bool) (d e : Data) → Reads deep d → Reads deep e → Reads deep (if b then d else e)
 choice deep true d e h k = h
@@ -50,9 +50,9 @@ word_reads deep Flag w = choice deep (bytes_eq w (codes "on")) _ _ (flag_reads d
 word_reads deep Gain w = text_reads deep w
 
 record ItemsRead (ds : Items) : Type 0 where
-  same : of_items (items_header ds) ≡ Some ds
-  numbers : tree.ItemsHaveNumbers (items_header ds)
-  flat : tree.items_depth (items_header ds) ≤ 0
+  same : of_items (items_outline ds) ≡ Some ds
+  numbers : tree.ItemsHaveNumbers (items_outline ds)
+  flat : tree.items_depth (items_outline ds) ≤ 0
 
 items_read : (kind : Kind) (ws : List (List ℕ)) → ItemsRead (items_data kind ws)
 items_read kind [] = record { same = refl; numbers = tt; flat = omega arith }
@@ -60,7 +60,7 @@ items_read kind (w ∷ ws) =
     let first = word_reads 0 kind w in
     let others = items_read kind ws in
     record {
-      same = ap (option_and_then (λ d. option_map (item d) (of_items (items_header (items_data kind ws))))) first.same ∙ ap (option_map (item (word_data kind w))) others.same;
+      same = ap (option_and_then (λ d. option_map (item d) (of_items (items_outline (items_data kind ws))))) first.same ∙ ap (option_map (item (word_data kind w))) others.same;
       numbers = (first.numbers, others.numbers);
       flat = omega (arith, first.flat, others.flat);
     }
@@ -78,9 +78,9 @@ value_reads (rest s) = text_reads 1 s
 value_reads (all kind ws) = array_reads kind ws
 
 record MembersRead (ms : Members) : Type 0 where
-  same : (found : Members) → of_members (members_header ms) found ≡ Some (put_all ms found)
-  numbers : tree.MembersHaveNumbers (members_header ms)
-  flat : tree.members_depth (members_header ms) ≤ 1
+  same : (found : Members) → of_members (members_outline ms) found ≡ Some (put_all ms found)
+  numbers : tree.MembersHaveNumbers (members_outline ms)
+  flat : tree.members_depth (members_outline ms) ≤ 1
 
 members_read : (ps : List Part) → MembersRead (members ps)
 members_read [] = record { same = λ found. refl; numbers = tt; flat = omega arith }
@@ -88,7 +88,7 @@ members_read (p ∷ ps) =
     let first = value_reads p.value in
     let others = members_read ps in
     record {
-      same = λ found. ap (option_and_then (λ d. of_members (members_header (members ps)) (put (called p.name) d found))) first.same ∙ others.same (put (called p.name) (value_data p.value) found);
+      same = λ found. ap (option_and_then (λ d. of_members (members_outline (members ps)) (put (called p.name) d found))) first.same ∙ others.same (put (called p.name) (value_data p.value) found);
       numbers = (first.numbers, others.numbers);
       flat = omega (arith, first.flat, others.flat);
     }
@@ -101,8 +101,8 @@ pub objects_are_read : ObjectsAreRead
 unfolding whole
 objects_are_read line =
     let d = line_data line in
-    let j = header d in
+    let j = outline d in
     let are = members_read (parts line) in
-    let told : tokens (compact_text d) ≡ tree.json_tokens j = ap tokens (sym (print-header d)) ∙ tokens-print (tree.json_tokens j) (ArePrintable-json_tokens j are.numbers) in
+    let told : tokens (compact_text d) ≡ tree.json_tokens j = ap tokens (sym (print-outline d)) ∙ tokens-print (tree.json_tokens j) (ArePrintable-json_tokens j are.numbers) in
     ap whole (ap (json.value max_depth) (told ∙ sym (append-nil (tree.json_tokens j))) ∙ value-json_tokens j max_depth [] (omega (arith, are.flat)))
     ∙ ap (option_map object) (are.same no_members)
