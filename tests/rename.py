@@ -50,7 +50,7 @@ def new_code(kind, text, scope):
             pieces.append(PROSE.sub(lambda word: in_prose(word, scope), token))
             continue
         is_word = WORD.match(token)
-        pieces.append(scope.name(token, before, where[one.start()]) if is_word else token)
+        pieces.append(scope.name(token, before, where[one.start()], kind) if is_word else token)
         before = token
     return "".join(pieces) + text[at:]
 
@@ -74,9 +74,11 @@ def new_import(kind, line, scope):
     for one in TOKEN[kind].finditer(line):
         token = one.group()
         depth += (token == "{") - (token == "}")
-        new = scope.name(token, before, here) if WORD.match(token) else token
+        new = scope.name(token, before, here, ".antt") if WORD.match(token) else token
         if declared and depth and before in ("{", ",") and token in scope.contract:
             new = "%s as %s" % (new, scope.contract[token])
+        elif kind == ".rt" and here and depth and before in ("{", ",") and token in scope.clause:
+            new = "%s as %s" % (new, scope.clause[token])
         pieces += [line[at : one.start()], new]
         at, before = one.end(), token
     return "".join(pieces) + line[at:]

@@ -56,7 +56,7 @@ def check_map(names, old_top):
     """A new name that OLD has would lead back to another one."""
     for crate, line in crate_lines(old_top).items():
         words = words_of_crate(crate, line, old_top)
-        places = {"contract": words[0], "code": words[1], None: words[2]}
+        places = {"contract": words[0], "clause": words[0], "code": words[1], None: words[2]}
         kept = {(row.place, row.old) for row in names.rows if row.place and row.holds(crate)}
         for row in names.rows:
             there = places[row.place]

@@ -3,10 +3,14 @@ maps back.
 
 Its lines are `old new`, each name one whole word: of the code, of definitions and proofs, of a
 file, a folder or a crate. With `contract` behind it a line is of what contracts, definitions and
-proofs name without a path, with `code` of all else; `@a,b` at its end says in which crates, by their
-old names, and in no others."""
+proofs name without a path, with `clause` of such names in sources alone, where a type's own name may
+stand in the way of a record's, with `code` of all else; `@a,b` at its end says in which crates, by
+their old names, and in no others."""
 import functools
 import os
+
+
+PLACES = ("contract", "clause", "code")
 
 
 class BadMap(Exception):
@@ -19,7 +23,7 @@ class Row:
     def __init__(self, number, words):
         crates = words[-1][1:].split(",") if words[-1].startswith("@") else None
         words = words[:-1] if crates else words
-        self.place = words[2] if words[2:] in (["contract"], ["code"]) else None
+        self.place = words[2] if len(words) == 3 and words[2] in PLACES else None
         names = words[:2] if self.place else words
         if len(names) != 2 or not all(word.replace("_", "a").isalnum() for word in names):
             raise BadMap("line %d is not of the form `old new`, each one word" % number)
@@ -34,11 +38,13 @@ class Scope:
     """The names of one crate, or of what is in none: new ones by old ones, or old ones by new."""
 
     def __init__(self):
-        self.everywhere, self.contract, self.code = {}, {}, {}
+        self.everywhere, self.contract, self.clause, self.code = {}, {}, {}, {}
 
-    def name(self, token, before, in_contract):
-        """The other name for a token behind another one."""
-        own = self.contract if in_contract and before != "." else self.code
+    def name(self, token, before, in_contract, kind=".antt"):
+        """The other name for a token behind another one, in a file of this kind."""
+        own = self.code
+        if in_contract and before != ".":
+            own = {**self.contract, **self.clause} if kind == ".rt" else self.contract
         return own.get(token) or self.everywhere.get(token, token)
 
 
@@ -49,7 +55,7 @@ class Names:
         lines = (line.split("#")[0].split() for line in text.split("\n"))
         self.rows = [Row(number, words) for number, words in enumerate(lines, 1) if words]
         for crate in {None, *(crate for row in self.rows for crate in row.crates or ())}:
-            for place in (None, "contract", "code"):
+            for place in (None, *PLACES):
                 self.check([one for one in self.rows if one.place == place and one.holds(crate)])
 
     @staticmethod
@@ -72,7 +78,7 @@ class Names:
 
     def scope(self, crate, pair):
         made = Scope()
-        places = {None: made.everywhere, "contract": made.contract, "code": made.code}
+        places = {None: made.everywhere, **{place: getattr(made, place) for place in PLACES}}
         for row in self.rows:
             if row.holds(crate):
                 name, other = pair(row)
@@ -84,5 +90,6 @@ class Names:
         parts = path.split(os.sep)
         if parts[0] != "crates" or len(parts) < 2:
             return None
-        back = {row.new: row.old for row in self.rows if not row.crates and row.place != "contract"}
+        places = (None, "code")
+        back = {row.new: row.old for row in self.rows if not row.crates and row.place in places}
         return back.get(parts[1], parts[1])

@@ -63,7 +63,8 @@ def in_contracts(kind, tokens):
 def renamed(kind, tokens, scope):
     """The tokens with old names in the place of new ones."""
     before = [""] + tokens[:-1]
-    return [scope.name(*one) for one in zip(tokens, before, in_contracts(kind, tokens))]
+    where = in_contracts(kind, tokens)
+    return [scope.name(*one, kind) for one in zip(tokens, before, where)]
 
 
 def is_of_contract(tokens):
@@ -72,13 +73,13 @@ def is_of_contract(tokens):
     return is_logic and "declared" not in tokens and "mod" not in tokens
 
 
-def renamed_import(tokens, scope):
-    """An import with old names in the place of new ones. What a type declares has its own name; if
-    it was brought in under that, and now has another, this is left out."""
+def renamed_import(kind, tokens, scope):
+    """An import with old names in the place of new ones. Where a name was brought in as it is, and
+    now is under another one, this is left out: it leads back to the same."""
     before, here = [""] + tokens[:-1], is_of_contract(tokens)
-    told = [scope.name(one, last, here) for one, last in zip(tokens, before)]
+    told = [scope.name(one, last, here, ".antt") for one, last in zip(tokens, before)]
     for at in range(len(tokens) - 2):
-        if tokens[at + 1] == "as" and scope.contract.get(tokens[at + 2]) == told[at]:
+        if tokens[at + 1] == "as" and scope.name(tokens[at + 2], "", True, kind) == told[at]:
             told[at + 1 : at + 3] = [None, None]
     return [one for one in told if one is not None]
 
@@ -118,7 +119,7 @@ def tokens_of(path, text, names):
         if between:
             made += sorted(block, key=repr) + between
             block = []
-        block.append(import_of(renamed_import(plain_tokens(kind, found.group()), scope)))
+        block.append(import_of(renamed_import(kind, plain_tokens(kind, found.group()), scope)))
         at = found.end()
     rest = renamed(kind, plain_tokens(kind, text[at:]), scope)
     return made + sorted(block, key=repr) + rest
