@@ -34,9 +34,9 @@ pub struct Latch<T> {
 }
 
 impl<T> Model for Latch<T> {
-    ghost use Rattle.base_io.specs.Latch.{Latch};
+    ghost use Rattle.base_io.specs.Latch.{Latch as LatchValue};
 
-    ghost Value = { Latch T };
+    ghost Value = { LatchValue T };
 
     ghost view = { λ latch. record {
       inner = latch.inner;

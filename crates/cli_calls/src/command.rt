@@ -2,7 +2,7 @@
 
 ghost use Rattle.std.specs.Prelude.{◌≡◌, ℕ, List, Option, Result, Ok, Err, IfOk, IfErr, OnOk};
 ghost use Rattle.std.specs.String.{string_bytes};
-ghost use Rattle.base_io.specs.Latch.{Latch};
+ghost use Rattle.base_io.specs.Latch.{Latch as LatchValue};
 ghost use Rattle.cli_calls.specs.declared.fault.CliFault.{CliFault as Fault};
 ghost use Rattle.cli_calls.specs.Reading.{AreRead};
 ghost use Rattle.cli_calls.specs.Running.{lent, Ran, RanAndPrinted};
@@ -18,12 +18,13 @@ pub(crate) trait Input<A: Allocator> {
     /// What the readers give.
     type Value;
 
-    ghost fits: { Self → (R : Type 0) → List (Latch R) → Type 0 };
+    ghost fits: { Self → (R : Type 0) → List (LatchValue R) → Type 0 };
 
-    ghost given: { Self → (R : Type 0) → (R → Option (List ℕ)) → List (Latch R) → Self.Value
+    ghost given: { Self → (R : Type 0) → (R → Option (List ℕ)) → List (LatchValue R) → Self.Value
         → Type 0 };
 
-    ghost cause: { Self → (R : Type 0) → (R → Option (List ℕ)) → List (Latch R) → List (Latch R)
+    ghost cause: { Self → (R : Type 0) → (R → Option (List ℕ)) → List (LatchValue R)
+        → List (LatchValue R)
         → Fault → Type 0 };
 
     /// Reads them, from left to right.

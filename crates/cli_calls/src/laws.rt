@@ -2,7 +2,7 @@
 //! does nothing or only compares.
 
 ghost use Rattle.std.specs.Prelude.{◌≡◌, ◌↔◌, ℕ, IsTrue, List, Result};
-ghost use Rattle.base_io.specs.Latch.{Latch};
+ghost use Rattle.base_io.specs.Latch.{Latch as LatchValue};
 ghost use Rattle.mt_opcodec.specs.IsLog.{IsLog};
 ghost use Rattle.mt_opcodec.specs.Sets.{IsSet};
 ghost use Rattle.mt_cuewrite.specs.Head.{HeadText};
@@ -76,7 +76,8 @@ pub fn equal_cli_faults(fault: &CliFault, other: &CliFault) -> bool
 /// union of the inputs' logs, and nothing else; `Merge` comes only of logs that clash, `Write` only
 /// of an output that has failed, and else nothing was written.
 pub fn view_logs<R: Read, W: Write>()
-    ensures { (before after : Lent (List (Latch R)) (Latch W)) (result : Result (Unit {0}) Fault)
+    ensures { (before after : Lent (List (LatchValue R)) (LatchValue W))
+        (result : Result (Unit {0}) Fault)
         → Ran R.remaining (GaveUnion R.remaining) (UnionFails R.remaining) (Prints log_view)
             W.contents before after result
         → WritesUnion R.remaining W.contents log_view before after result }
@@ -84,7 +85,8 @@ pub fn view_logs<R: Read, W: Write>()
 
 /// What `merge_logs` promises: the same of the text of the log of the union.
 pub fn merge_logs<R: Read, W: Write>()
-    ensures { (before after : Lent (List (Latch R)) (Latch W)) (result : Result (Unit {0}) Fault)
+    ensures { (before after : Lent (List (LatchValue R)) (LatchValue W))
+        (result : Result (Unit {0}) Fault)
         → Ran R.remaining (GaveUnion R.remaining) (UnionFails R.remaining) (Prints text_of)
             W.contents before after result
         → WritesUnion R.remaining W.contents text_of before after result }
@@ -95,7 +97,8 @@ pub fn merge_logs<R: Read, W: Write>()
 /// cannot be mixed or whose file is too long, `Write` only of an output that has failed, and else
 /// nothing was written.
 pub fn bounce_logs<R: Read, W: Write>()
-    ensures { (layout : Format) (head : HeadText) (before after : Lent (RenderInputs R) (Latch W))
+    ensures { (layout : Format) (head : HeadText) (before after : Lent (RenderInputs R)
+        (LatchValue W))
         (result : Result (Unit {0}) Fault)
         → RanOn (GaveLogsAndWaves R.remaining) (RenderCause R.remaining) (AreInputsRead R.remaining)
             (RendersLogs layout head)
@@ -107,7 +110,7 @@ pub fn bounce_logs<R: Read, W: Write>()
 /// its text, and nothing else; `Source` comes only of bytes that are none, `Write` only of an
 /// output that has failed, and else nothing was written.
 pub fn write_info<W: Write>()
-    ensures { (bytes : List ℕ) (before after : Latch W) (result : Result (Unit {0}) Fault)
+    ensures { (bytes : List ℕ) (before after : LatchValue W) (result : Result (Unit {0}) Fault)
         → Wrote W.contents (Informs bytes) before after result
         → WritesInfo W.contents bytes before after result }
 {}

@@ -1,7 +1,7 @@
 //! Reading one input, and several of one kind.
 
 ghost use Rattle.std.specs.Prelude.{◌≡◌, ◌≢◌, ◌+◌, ◌<◌, ◌^◌, ℕ, List, Option, IfOk, IfErr, OnOk};
-ghost use Rattle.base_io.specs.Latch.{Latch};
+ghost use Rattle.base_io.specs.Latch.{Latch as LatchValue};
 ghost use Rattle.mt_opcodec.specs.declared.fault.LogFault.TheVariants as log;
 ghost use Rattle.wave_header.specs.WaveHeader.{Gives};
 ghost use Rattle.cli_calls.specs.declared.fault.CliFault.{CliFault as Fault};
@@ -138,9 +138,11 @@ pub(crate) trait OneInput<A: Allocator> {
     /// What it gives.
     type Value;
 
-    ghost gives: { Self → (R : Type 0) → (R → Option (List ℕ)) → Latch R → Self.Value → Type 0 };
+    ghost gives: { Self → (R : Type 0) → (R → Option (List ℕ)) → LatchValue R → Self.Value
+        → Type 0 };
 
-    ghost cause: { Self → (R : Type 0) → (R → Option (List ℕ)) → ℕ → Latch R → Latch R → Fault
+    ghost cause: { Self → (R : Type 0) → (R → Option (List ℕ)) → ℕ → LatchValue R → LatchValue R
+        → Fault
         → Type 0 };
 
     /// Reads the input of this index.
@@ -158,7 +160,7 @@ pub(crate) trait OneInput<A: Allocator> {
 
     /// For the proof: that memory which runs out is a cause, whatever was read.
     fn starves<R: Read>(&self)
-        ensures { (index : ℕ) (old new : Latch R) → IsRest R.remaining old new
+        ensures { (index : ℕ) (old new : LatchValue R) → IsRest R.remaining old new
             → cause self.now R R.remaining index old new Memory };
 }
 

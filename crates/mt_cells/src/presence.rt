@@ -27,9 +27,9 @@ pub struct Presence<A: Allocator = Global> {
 }
 
 impl<A: Allocator> Model for Presence<A> {
-    ghost use Rattle.mt_cells.specs.PresenceValue.{Presence, marks_code};
+    ghost use Rattle.mt_cells.specs.PresenceValue.{Presence as PresenceValue, marks_code};
 
-    ghost Value = { Presence };
+    ghost Value = { PresenceValue };
 
     ghost coded = { marks_code };
 

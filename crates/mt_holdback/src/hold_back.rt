@@ -31,10 +31,10 @@ pub struct HoldBack<T: Waits, A: Allocator = Global> {
 }
 
 impl<T: Waits, A: Allocator> Model for HoldBack<T, A> {
-    ghost use Rattle.mt_holdback.specs.Value.{HoldBack};
+    ghost use Rattle.mt_holdback.specs.Value.{HoldBack as HoldBackValue};
     ghost use Rattle.mt_holdback.specs.Queue.{contents_of, InOrder};
 
-    ghost Value = { HoldBack T };
+    ghost Value = { HoldBackValue T };
 
     ghost view = { λ h. record { contents = contents_of h.released.items h.waiting; failed =
         h.failed } };

@@ -122,7 +122,7 @@ fn is_older(stamp: Option<Stamp>, clock: u64) -> bool
 }
 
 impl<A: Allocator> Body<A> {
-    ghost use Rattle.mt_op.specs.OpValue.{Op};
+    ghost use Rattle.mt_op.specs.OpValue.{Op as OpValue};
     ghost use Rattle.mt_op.specs.Bodies.{act_of, is_fixed_size};
     ghost use Rattle.mt_op.specs.Needs.{names_are_older};
     ghost use Rattle.mt_op.specs.Valid.{AreFields, length_is_good, fades_are_good, tags_are_good};

@@ -28,9 +28,9 @@ pub struct Op<A: Allocator = Global> {
 }
 
 impl<A: Allocator> Model for Op<A> {
-    ghost use Rattle.mt_op.specs.OpValue.{Op};
+    ghost use Rattle.mt_op.specs.OpValue.{Op as OpValue};
 
-    ghost Value = { Op };
+    ghost Value = { OpValue };
 
     ghost use Rattle.mt_op.specs.Bodies.{act_of, body_of};
     ghost use Rattle.mt_op.specs.Valid.{IsOp};
@@ -98,7 +98,7 @@ fn remove_need(item: Stamp, tags: &[Stamp], i: usize) -> Option<Need>
 }
 
 impl<A: Allocator> Op<A> {
-    ghost use Rattle.mt_op.specs.OpValue.{Op};
+    ghost use Rattle.mt_op.specs.OpValue.{Op as OpValue};
 
     /// An operation of a stamp and a body. Takes no memory. Refused, in this order:
     ///

@@ -2,7 +2,7 @@
 
 ghost use Rattle.std.specs.Prelude.{◌≡◌, drop, IfOk, IsTrue, map as list_map};
 ghost use Rattle.std.specs.Option.{option_copied};
-ghost use Rattle.mt_op.specs.OpValue.{Op};
+ghost use Rattle.mt_op.specs.OpValue.{Op as OpValue};
 ghost use Rattle.mt_opcodec.specs.Turns.{IsInOne, AreOneEach, MayStandBehind, first_at};
 ghost use Rattle.mt_opcodec.specs.Turns.{without_first};
 ghost use Rattle.mt_opcodec.specs.Union.{AllAgree};
@@ -57,7 +57,7 @@ fn may_stand_behind<A: Allocator>(last: Option<&Op<A>>, op: &Op<A>) -> bool
 
 // Whether nothing is left of any list.
 fn none_left<A: Allocator>(lists: &[&[Op<A>]]) -> bool
-    ensures { IsTrue result → (o : Op) → IsInOne (list_map (λ l. l.now) lists.now) o → ⊥ }
+    ensures { IsTrue result → (o : OpValue) → IsInOne (list_map (λ l. l.now) lists.now) o → ⊥ }
 {
     for ops in lists {
         if !ops.is_empty() {

@@ -2,7 +2,7 @@
 
 ghost use Rattle.std.specs.Prelude.{◌≡◌, ◌++◌, ◌∷◌, [], Some, slice_get, drop, IfOk, IfErr, OnOk};
 ghost use Rattle.std.specs.Prelude.{IsTrue};
-ghost use Rattle.mt_op.specs.OpValue.{Op};
+ghost use Rattle.mt_op.specs.OpValue.{Op as OpValue};
 ghost use Rattle.mt_op.specs.Dots.{op_dot, dots_rise};
 ghost use Rattle.mt_opcodec.specs.LogValue.{AreLogged, log_of};
 ghost use Rattle.mt_opcodec.specs.Union.{Agree, union, MergeFails};
@@ -47,7 +47,7 @@ fn move_first<A: Allocator>(
     ops: &mut Vec<Op<A>, A>,
 ) -> Result<(), AllocError>
     ensures rest { from.new.items ≡ drop 1 from.old.items }
-    ensures moved { OnOk result ((o : Op) → slice_get from.old.items 0 ≡ Some o
+    ensures moved { OnOk result ((o : OpValue) → slice_get from.old.items 0 ≡ Some o
         → ops.new.items ≡ ops.old.items ++ (o ∷ [])) }
 {
     if let Some(op) = from.pop_front() {
@@ -58,7 +58,7 @@ fn move_first<A: Allocator>(
 
 // The refusal of another operation under the dot of the first.
 fn conflict_at<A: Allocator>(left: &VecDeque<Op<A>, A>) -> LogFault
-    ensures { (o : Op) → slice_get left.now.items 0 ≡ Some o → result
+    ensures { (o : OpValue) → slice_get left.now.items 0 ≡ Some o → result
         ≡ LogFault.Conflict (op_dot o) }
 {
     match left.front() {

@@ -3,7 +3,7 @@
 ghost use Rattle.std.specs.Prelude.{◌≡◌, ◌++◌, ◌∷◌, [], Some, slice_get, drop, IfOk, IfErr, OnOk};
 ghost use Rattle.std.specs.Prelude.{map as list_map};
 ghost use Rattle.std.specs.FinMap as map;
-ghost use Rattle.mt_op.specs.OpValue.{Op};
+ghost use Rattle.mt_op.specs.OpValue.{Op as OpValue};
 ghost use Rattle.mt_op.specs.Dots.{op_dot};
 ghost use Rattle.mt_opcodec.specs.Laws.{PairsAgree};
 ghost use Rattle.mt_opcodec.specs.Runs.{RunOf};
@@ -78,7 +78,7 @@ fn take_first<A: Allocator>(lists: &mut Vec<VecDeque<Op<A>, A>, A>, i: usize) ->
 
 // Adds an operation to a log that has no other one under its dot.
 fn add_agreeing<A: Allocator + Clone>(log: &mut Log<A>, op: Op<A>) -> Result<(), LogFault>
-    requires agrees { (o : Op) → map.get log.old (op_dot op) ≡ Some o → o ≡ op }
+    requires agrees { (o : OpValue) → map.get log.old (op_dot op) ≡ Some o → o ≡ op }
     ensures ok { OnOk result (log.new ≡ map.insert log.old (op_dot op) op) }
     ensures err { IfErr result (λ fault. fault ≡ LogFault.Memory) }
 {

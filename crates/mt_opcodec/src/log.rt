@@ -55,7 +55,7 @@ impl<A: Allocator> Model for Log<A> {
 }
 
 impl<A: Allocator> Log<A> {
-    ghost use Rattle.mt_op.specs.OpValue.{Op};
+    ghost use Rattle.mt_op.specs.OpValue.{Op as OpValue};
     ghost use Rattle.mt_opcodec.specs.Union.{Agree, union, IsFirstConflict, MergeFails};
 
     /// The log of no operation. Takes no memory.
@@ -175,7 +175,7 @@ impl<A: Allocator> Log<A> {
 }
 
 impl<A: Allocator + Clone> Log<A> {
-    ghost use Rattle.mt_op.specs.OpValue.{Op};
+    ghost use Rattle.mt_op.specs.OpValue.{Op as OpValue};
     ghost use Rattle.mt_opcodec.specs.LogReading.{LogGives, log_at};
     ghost use Rattle.mt_opcodec.specs.Union.{Agree, union, MergeFails};
 
@@ -192,7 +192,7 @@ impl<A: Allocator + Clone> Log<A> {
         // What is read is the log text of its operations.
         ensures found { IfOk result (λ log. bytes.now ≡ log_bytes (operations log)) }
         // The log text of operations is read as them, unless memory ran out.
-        ensures only { (ops : List Op) → AreLogged ops → length ops < 2 ^ 64 → bytes.now
+        ensures only { (ops : List OpValue) → AreLogged ops → length ops < 2 ^ 64 → bytes.now
             ≡ log_bytes ops
             → LogGives operations result (Ok ops) }
         // Which fault it is.

@@ -9,7 +9,7 @@ ghost use Rattle.mt_opcodec.specs.LogReading.{LogGives, record_of, fault_of, rec
 ghost use Rattle.mt_opcodec.specs.LogReading.{in_version, log_records_at, version_byte, sealed_at};
 ghost use Rattle.mt_opcodec.specs.LogReading.{counted_at, log_at};
 ghost use Rattle.mt_stamp.specs.StampOrder.{dot_cmp};
-ghost use Rattle.mt_op.specs.OpValue.{Op};
+ghost use Rattle.mt_op.specs.OpValue.{Op as OpValue};
 ghost use Rattle.mt_op.specs.Rising.{is_after};
 ghost use Rattle.mt_opcodec.specs.LogValue.{operations};
 

@@ -2,7 +2,7 @@
 
 ghost use Rattle.std.specs.Prelude.{◌≡◌, ℕ, ◌++◌, List, length, drop, Ok, IfOk};
 ghost use Rattle.mt_op.specs.Bodies.{act_of};
-ghost use Rattle.mt_op.specs.OpValue.{Op};
+ghost use Rattle.mt_op.specs.OpValue.{Op as OpValue};
 ghost use Rattle.mt_op.specs.Valid.{IsOp};
 ghost use Rattle.mt_opcodec.specs.OpReading.{Gives, add_track_at, move_track_at, add_clip_at};
 ghost use Rattle.mt_opcodec.specs.OpReading.{move_clip_at, trim_clip_at, set_gain_at, set_mute_at};
@@ -321,7 +321,7 @@ pub fn read_op<A: Allocator>(alloc: A, bytes: &[u8]) -> Result<(Op<A>, usize), R
     ensures found { IfOk result (λ x. IsOp x.0 × (x.1 ≡ length (op_text x.0))
         × (bytes.now ≡ op_text x.0 ++ drop x.1 bytes.now)) }
     // What stands at the front is read, unless memory ran out.
-    ensures only { (o : Op) (rest : List ℕ) → IsOp o → bytes.now ≡ op_text o ++ rest
+    ensures only { (o : OpValue) (rest : List ℕ) → IsOp o → bytes.now ≡ op_text o ++ rest
         → Gives (λ x. x) result (Ok (o, length (op_text o))) }
     // Which fault it is.
     ensures exact { Gives (λ x. (x.0, drop x.1 bytes.now)) result (op_at newest_version bytes.now) }

@@ -65,7 +65,7 @@ fn put_at<A: Allocator>(ops: &mut Vec<Op<A>, A>, place: usize, op: Op<A>) -> Res
 }
 
 impl<A: Allocator> Run<A> {
-    ghost use Rattle.mt_op.specs.OpValue.{Op};
+    ghost use Rattle.mt_op.specs.OpValue.{Op as OpValue};
     ghost use Rattle.mt_op.specs.Dots.{op_dot};
     ghost use Rattle.mt_opcodec.specs.LogValue.{Adds, log_of};
     ghost use Rattle.mt_opcodec.specs.Union.{MergeFails};

@@ -4,7 +4,7 @@ ghost use Rattle.std.specs.Prelude.{◌≡◌, ℕ, [], map, false, IfOk, IfSome
 ghost use Rattle.std.specs.List.{AllByRecursion, sum_by};
 ghost use Rattle.std.specs.declared.cmp.Ordering.TheVariants.{Less};
 ghost use Rattle.mt_stamp.specs.Sorting.{RisesStrictly};
-ghost use Rattle.mt_op.specs.OpValue.{Op};
+ghost use Rattle.mt_op.specs.OpValue.{Op as OpValue};
 ghost use Rattle.mt_op.specs.ByStamp.{op_cmp};
 ghost use Rattle.mt_opcodec.specs.LogValue.{operations};
 ghost use Rattle.mt_replica.specs.State.{HoldsBack};
@@ -29,10 +29,10 @@ fn take_next<A: Allocator + Clone>(
     requires whole { waiting.old.failed ≡ false }
     requires unknown { is_offered waiting.old.contents op.now.stamp ≡ false }
     requires above { AllByRecursion (λ u. op_cmp u op.now ≡ Less) waiting.old.contents.waiting }
-    requires same { (f : Op → ℕ) → sum_by f items ≡ sum_by f waiting.old.contents.released }
+    requires same { (f : OpValue → ℕ) → sum_by f items ≡ sum_by f waiting.old.contents.released }
     ensures kept { OnOk result (waiting.new
         ≡ record { contents = with_offered waiting.old.contents op.now; failed = false }) }
-    ensures same { IfOk result (λ after. (f : Op → ℕ)
+    ensures same { IfOk result (λ after. (f : OpValue → ℕ)
         → sum_by f after ≡ sum_by f waiting.new.contents.released) }
 {
     // for the proof: that what was released is what is ready, and that the operation names older
@@ -55,7 +55,7 @@ fn all_taken<A: Allocator + Clone>(
     requires rising { RisesStrictly op_cmp (map (λ o. o.now) ops.now) }
     requires own { HaveOwnStamps (map (λ o. o.now) ops.now) }
     ensures offered { IfOk result (λ both. AreOffered both.0 [] (map (λ o. o.now) ops.now)) }
-    ensures applied { IfOk result (λ both. (f : Op → ℕ) → sum_by f both.1
+    ensures applied { IfOk result (λ both. (f : OpValue → ℕ) → sum_by f both.1
         ≡ sum_by f both.0.contents.released) }
 {
     let mut waiting = HoldBack::new(alloc.clone()?);
@@ -72,7 +72,7 @@ pub(crate) fn items_beside<A: Allocator + Clone>(
     alloc: &A,
     log: &Log<A>,
 ) -> Result<ItemStates<A>, AllocError>
-    ensures applied { IfOk result (λ items. (f : Op → ℕ) → sum_by f items
+    ensures applied { IfOk result (λ items. (f : OpValue → ℕ) → sum_by f items
         ≡ sum_by f (ready_ops (operations log.now))) }
 {
     // for the proof: that the dots of a log's operations differ
@@ -89,7 +89,7 @@ pub(crate) fn beside_log<A: Allocator + Clone>(
     log: &Log<A>,
 ) -> Result<(HoldBack<Op<A>, A>, ItemStates<A>), AllocError>
     ensures waits { IfOk result (λ both. HoldsBack log.now both.0) }
-    ensures applied { IfOk result (λ both. (f : Op → ℕ) → sum_by f both.1
+    ensures applied { IfOk result (λ both. (f : OpValue → ℕ) → sum_by f both.1
         ≡ sum_by f (ready_ops (operations log.now))) }
 {
     // for the proof: that the dots of a log's operations differ

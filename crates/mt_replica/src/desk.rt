@@ -69,11 +69,11 @@ pub type Draft<A = Global> = EditorCore<A, WithoutSession>;
 
 impl<A: Allocator, S: Sessions> Model for EditorCore<A, S> {
     ghost use Rattle.std.specs.Prelude.{◌≡◌, option_map, IfSome};
-    ghost use Rattle.mt_replica.specs.EditorValue.{Editor};
+    ghost use Rattle.mt_replica.specs.EditorValue.{Editor as EditorValue};
     ghost use Rattle.mt_replica.specs.State.{StateValue};
     ghost use Rattle.mt_replica.specs.Codes.{kept_code};
 
-    ghost Value = { Editor };
+    ghost Value = { EditorValue };
 
     ghost coded = { kept_code };
 
@@ -98,7 +98,7 @@ impl<A: Allocator, S: Sessions> EditorCore<A, S> {
 }
 
 impl<A: Allocator + Clone> Draft<A> {
-    ghost use Rattle.mt_replica.specs.EditorValue.{Editor};
+    ghost use Rattle.mt_replica.specs.EditorValue.{Editor as EditorValue};
 
     /// A draft that has taken a log's operations. Refused only as `Memory` (0).
     pub fn new(alloc: A, name: Replica, log: Log<A>) -> Result<Self, EditorFault>
@@ -111,7 +111,7 @@ impl<A: Allocator + Clone> Draft<A> {
 }
 
 impl<A: Allocator + Clone> Editor<A> {
-    ghost use Rattle.mt_replica.specs.EditorValue.{Editor, session_in};
+    ghost use Rattle.mt_replica.specs.EditorValue.{Editor as EditorValue, session_in};
 
     /// An editor of this name that has taken a log's operations. Refused only as `Memory` (0).
     pub fn from_log(alloc: A, name: Replica, log: Log<A>) -> Result<Self, EditorFault>
@@ -160,7 +160,8 @@ impl<A: Allocator + Clone> Editor<A> {
 }
 
 impl<A: Allocator + Clone, S: Sessions> EditorCore<A, S> {
-    ghost use Rattle.mt_replica.specs.EditorValue.{Editor, kept_with, failed, copied, EditGives};
+    ghost use Rattle.mt_replica.specs.EditorValue.{Editor as EditorValue, kept_with, failed};
+    ghost use Rattle.mt_replica.specs.EditorValue.{copied, EditGives};
     ghost use Rattle.mt_replica.specs.EditorValue.{after_edit, TakeGives, after_take};
     ghost use Rattle.mt_replica.specs.State.{IsMadeOf, IsNewTo};
 

@@ -6,7 +6,7 @@ ghost use Rattle.mt_stamp.specs.Sorting.{sort_by};
 ghost use Rattle.mt_stamp.specs.Tree.{IsTree};
 ghost use Rattle.mt_tracklist.specs.Ordered.{tree_of};
 ghost use Rattle.mt_op.specs.ByStamp.{op_cmp};
-ghost use Rattle.mt_op.specs.OpValue.{Op};
+ghost use Rattle.mt_op.specs.OpValue.{Op as OpValue};
 ghost use Rattle.session_state.specs.Applying.{AreApplied};
 ghost use Rattle.mt_sessionview.specs.AppliedOps.{places_in, placed_in};
 ghost use Rattle.mt_sessionview.specs.Read.{tree_place};
@@ -66,7 +66,7 @@ pub(crate) fn shown_of<A: Allocator + Clone>(
     held: u64,
 ) -> Result<VisibleSession<A>, AllocError>
     requires applied { AreApplied items.now }
-    requires same { (f : Op → ℕ) → sum_by f items.now ≡ sum_by f ready.now }
+    requires same { (f : OpValue → ℕ) → sum_by f items.now ≡ sum_by f ready.now }
     requires tree { IsTree (places_in ready.now) }
     ensures shown { IfOk result (λ shown. AreShown items.now shown.places shown.session) }
     ensures held { IfOk result (λ shown. shown.session.held ≡ held) }

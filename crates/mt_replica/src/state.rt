@@ -7,7 +7,7 @@ ghost use Rattle.std.specs.FinMap as map;
 ghost use Rattle.std.specs.List.{sum_by};
 ghost use Rattle.mt_holdback.specs.HoldBack.{IsHoldBack};
 ghost use Rattle.mt_holdback.specs.Ops.{op_rules};
-ghost use Rattle.mt_op.specs.OpValue.{Op};
+ghost use Rattle.mt_op.specs.OpValue.{Op as OpValue};
 ghost use Rattle.mt_replica.specs.Holding.{newly_released, offer_gives, with_offered, StampsRise};
 ghost use Rattle.mt_op.specs.Dots.{op_dot};
 ghost use Rattle.mt_op.specs.Bodies.{act_of};
@@ -118,7 +118,7 @@ impl<A: Allocator + Clone> State<A> {
         waiting: Option<HoldBack<Op<A>, A>>,
         view: EditorState<A>,
     ) -> Self
-        requires applied { (f : Op → ℕ) → sum_by f view.ops
+        requires applied { (f : OpValue → ℕ) → sum_by f view.ops
             ≡ sum_by f (ready_ops (operations log)) }
         requires held { IsHeldOf log view.held }
         requires waits { IfSome waiting (HoldsBack log) }

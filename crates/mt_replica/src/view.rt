@@ -4,7 +4,7 @@ ghost use Rattle.std.specs.Prelude.{◌≡◌, ◌∷◌, ℕ, Some, None, Optio
 ghost use Rattle.std.specs.Option.{option_copied};
 ghost use Rattle.std.specs.List.{sum_by};
 ghost use Rattle.mt_stamp.specs.Tree.{IsTree};
-ghost use Rattle.mt_op.specs.OpValue.{Op};
+ghost use Rattle.mt_op.specs.OpValue.{Op as OpValue};
 ghost use Rattle.session_state.specs.Applying.{AreApplied, CanApply};
 ghost use Rattle.mt_sessionview.specs.AppliedOps.{places_in};
 ghost use Rattle.session_update.specs.Updating.{session_in};
@@ -90,7 +90,7 @@ impl<A: Allocator + Clone> EditorState<A> {
     /// The same with the session kept, which is read off the items: of these operations, noted in
     /// whatever order, with this many others held. `AllocError` where an allocation failed.
     pub(crate) fn show(self, alloc: &A, ready: &[Op<A>], held: u64) -> Result<Self, AllocError>
-        requires same { (f : Op → ℕ) → sum_by f self.ops ≡ sum_by f ready.now }
+        requires same { (f : OpValue → ℕ) → sum_by f self.ops ≡ sum_by f ready.now }
         requires tree { IsTree (places_in ready.now) }
         ensures ok { IfOk result (λ view. view ≡ record { ops = self.ops; held = Some held }) }
     {

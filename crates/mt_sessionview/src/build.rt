@@ -5,7 +5,7 @@ ghost use Rattle.std.specs.List.{sum_by};
 ghost use Rattle.mt_stamp.specs.Sorting.{RisesStrictly};
 ghost use Rattle.mt_stamp.specs.Tree.{IsTree};
 ghost use Rattle.mt_op.specs.ByStamp.{op_cmp};
-ghost use Rattle.mt_op.specs.OpValue.{Op};
+ghost use Rattle.mt_op.specs.OpValue.{Op as OpValue};
 ghost use Rattle.mt_opcodec.specs.LogValue.{operations};
 ghost use Rattle.session_state.specs.Applying.{AreApplied};
 ghost use Rattle.mt_sessionview.specs.AppliedOps.{markers_in, tracks_in, places_in, placed_in};
@@ -48,7 +48,7 @@ fn placed_tracks<'a, A: Allocator + Clone>(
     items: &ItemStates<A>,
 ) -> Result<(Vec<TrackView<A>, A>, Vec<&'a Op<A>, A>), AllocError>
     requires applied { AreApplied items.now }
-    requires same { (f : Op → ℕ) → sum_by f items.now ≡ sum_by f (map (λ o. o.now) ready.now) }
+    requires same { (f : OpValue → ℕ) → sum_by f items.now ≡ sum_by f (map (λ o. o.now) ready.now) }
     requires rising { RisesStrictly op_cmp (map (λ o. o.now) ready.now) }
     requires tree { IsTree (places_in (map (λ o. o.now) ready.now)) }
     ensures tracks { IfOk result (λ both. both.0.items ≡ tracks_in items.now) }
@@ -83,7 +83,7 @@ pub fn session_of_ready<'a, A: Allocator + Clone>(
     held: u64,
 ) -> Result<(Session<A>, Vec<&'a Op<A>, A>), AllocError>
     requires applied { AreApplied items.now }
-    requires same { (f : Op → ℕ) → sum_by f items.now ≡ sum_by f (map (λ o. o.now) ready.now) }
+    requires same { (f : OpValue → ℕ) → sum_by f items.now ≡ sum_by f (map (λ o. o.now) ready.now) }
     requires rising { RisesStrictly op_cmp (map (λ o. o.now) ready.now) }
     requires tree { IsTree (places_in (map (λ o. o.now) ready.now)) }
     ensures session { IfOk result (λ both. both.0 ≡ record
@@ -117,7 +117,7 @@ fn parts_of_items<A: Allocator + Clone>(
     held: u64,
 ) -> Result<Parts<A>, AllocError>
     requires applied { AreApplied items }
-    requires same { (f : Op → ℕ) → sum_by f items ≡ sum_by f (map (λ o. o.now) ready.now) }
+    requires same { (f : OpValue → ℕ) → sum_by f items ≡ sum_by f (map (λ o. o.now) ready.now) }
     requires rising { RisesStrictly op_cmp (map (λ o. o.now) ready.now) }
     requires tree { IsTree (places_in (map (λ o. o.now) ready.now)) }
     ensures parts { IfOk result (λ parts. ArePartsOf items parts.tracks.items parts.cells.items) }
@@ -164,8 +164,8 @@ pub(crate) fn session_of_parts<A: Allocator + Clone>(
     alloc: A,
     parts: Parts<A>,
 ) -> Result<Session<A>, AllocError>
-    requires { (items : ListOf Op) × ArePartsOf items parts.tracks.items parts.cells.items }
-    ensures ok { IfOk result (λ session. (items : ListOf Op)
+    requires { (items : ListOf OpValue) × ArePartsOf items parts.tracks.items parts.cells.items }
+    ensures ok { IfOk result (λ session. (items : ListOf OpValue)
         → ArePartsOf items parts.tracks.items parts.cells.items
         → session ≡ session_in items parts.held) }
 {

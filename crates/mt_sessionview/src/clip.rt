@@ -5,7 +5,7 @@ ghost use Rattle.std.specs.Prelude.{if◌then◌else◌, IfOk, OnOk};
 ghost use Rattle.std.specs.BTreeMap.{get};
 ghost use Rattle.std.specs.List.Sorted.{IsPermutation, IsSorted};
 ghost use Rattle.mt_stamp.specs.StampOrder.{Stamp, stamp_cmp, stamp_eq};
-ghost use Rattle.mt_op.specs.OpValue.{Op};
+ghost use Rattle.mt_op.specs.OpValue.{Op as OpValue};
 ghost use Rattle.mt_op.specs.Valid.{AreShort};
 ghost use Rattle.session_state.specs.Cells.{HoldsClip};
 ghost use Rattle.mt_sessionview.specs.SessionValue.{clip_cmp};
@@ -28,7 +28,7 @@ struct OnTrack {
 fn clip_at<A: Allocator>(clip: Stamp, cells: &ClipCells<A>) -> Option<OnTrack>
     requires positive { 1 ≤ cells.now.trim.value.len }
     requires short { AreShort cells.now.fades.value }
-    ensures { (ops : ListOf Op) → HoldsClip clip ops cells.now → result ≡ clip_read ops clip }
+    ensures { (ops : ListOf OpValue) → HoldsClip clip ops cells.now → result ≡ clip_read ops clip }
 {
     if !cells.presence.is_present() {
         return None;

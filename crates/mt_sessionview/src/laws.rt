@@ -2,7 +2,7 @@
 
 ghost use Rattle.std.specs.Prelude.{◌≡◌, ◌↔◌, IsTrue, List};
 ghost use Rattle.mt_stamp.specs.StampOrder.{stamp_cmp};
-ghost use Rattle.mt_op.specs.OpValue.{Op};
+ghost use Rattle.mt_op.specs.OpValue.{Op as OpValue};
 ghost use Rattle.mt_sessionview.specs.SessionValue.{clip_cmp, marker_cmp};
 ghost use Rattle.mt_sessionview.specs.Session.{track_cmp};
 ghost use Rattle.mt_sessionview.specs.SessionLaws.{AnyListing, HeldIsCounted, PlacesAreATree};
@@ -26,7 +26,7 @@ pub fn sorted_clips()
 /// The tracks of a session are in the order of their places, and sorting them neither loses nor
 /// makes one.
 pub fn sorted_tracks()
-    ensures { (ops : List Op) → Sorts (track_cmp ops) }
+    ensures { (ops : List OpValue) → Sorts (track_cmp ops) }
 {}
 
 /// Stamps that are sorted rise, and sorting them neither loses nor makes one.

@@ -5,7 +5,7 @@ ghost use Rattle.std.specs.List.{AllByRecursion, filter_map};
 ghost use Rattle.std.specs.Map.{keys_of};
 ghost use Rattle.std.specs.List.Sorted.{IsPermutation, IsSorted};
 ghost use Rattle.mt_op.specs.declared.need.Role.TheVariants.{Marker};
-ghost use Rattle.mt_op.specs.OpValue.{Op};
+ghost use Rattle.mt_op.specs.OpValue.{Op as OpValue};
 ghost use Rattle.session_state.specs.Cells.{HoldsMarker, items_of};
 ghost use Rattle.mt_sessionview.specs.SessionValue.{marker_cmp};
 ghost use Rattle.mt_sessionview.specs.Read.{marker_read};
@@ -20,7 +20,7 @@ fn marker_at<A: Allocator + Clone>(
     marker: Stamp,
     cells: &MarkerCells<A>,
 ) -> Result<Option<MarkerView<A>>, AllocError>
-    ensures ok { IfOk result (λ view. (ops : List Op) → HoldsMarker marker ops cells.now → view
+    ensures ok { IfOk result (λ view. (ops : List OpValue) → HoldsMarker marker ops cells.now → view
         ≡ marker_read ops marker) }
 {
     if !cells.presence.is_present() {
@@ -57,7 +57,8 @@ pub(crate) fn markers<A: Allocator + Clone>(
 
 // A marker, from its cells by value, where it is present.
 fn marker_from<A: Allocator>(marker: Stamp, cells: MarkerCells<A>) -> Option<MarkerView<A>>
-    ensures { (ops : List Op) → HoldsMarker marker ops cells → result ≡ marker_read ops marker }
+    ensures { (ops : List OpValue) → HoldsMarker marker ops cells → result
+        ≡ marker_read ops marker }
 {
     let MarkerCells {
         position,
@@ -81,7 +82,7 @@ pub(crate) fn taken_markers<A: Allocator + Clone>(
     alloc: A,
     cells: Vec<(Stamp, MarkerCells<A>), A>,
 ) -> Result<Vec<MarkerView<A>, A>, AllocError>
-    ensures ok { IfOk result (λ markers. (ops : List Op)
+    ensures ok { IfOk result (λ markers. (ops : List OpValue)
         → AllByRecursion (λ e. HoldsMarker e.0 ops e.1) cells.items → markers.items
         ≡ filter_map (marker_read ops) (keys_of cells.items)) }
 {

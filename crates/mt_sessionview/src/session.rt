@@ -116,9 +116,9 @@ pub struct Session<A: Allocator = Global> {
 }
 
 impl<A: Allocator> Model for Session<A> {
-    ghost use Rattle.mt_sessionview.specs.SessionValue.{Session, IsSession};
+    ghost use Rattle.mt_sessionview.specs.SessionValue.{Session as SessionValue, IsSession};
 
-    ghost Value = { Session };
+    ghost Value = { SessionValue };
 
     ghost view = { λ s. record { tracks = s.tracks; markers = s.markers; held = s.held } };
 

@@ -9,7 +9,7 @@ ghost use Rattle.mt_stamp.specs.Sorting.{DifferBy, RisesStrictly};
 ghost use Rattle.mt_stamp.specs.Tree.{IsTree};
 ghost use Rattle.mt_op.specs.declared.need.Role.TheVariants.{Marker};
 ghost use Rattle.mt_op.specs.ByStamp.{stamp_of, op_cmp};
-ghost use Rattle.mt_op.specs.OpValue.{Op};
+ghost use Rattle.mt_op.specs.OpValue.{Op as OpValue};
 ghost use Rattle.mt_op.specs.Writes.{title_written, last_write};
 ghost use Rattle.session_state.specs.Cells.{HoldsTrack, HoldsMarker, items_of};
 ghost use Rattle.session_state.specs.Applying.{AreApplied};
@@ -29,7 +29,7 @@ use std::alloc::{AllocError, Allocator};
 
 // The present track that stands where an operation put it, from the cells of all tracks.
 fn standing_track<A: Allocator>(tracks: &StampMap<TrackCells<A>, A>, op: &Op<A>) -> Option<Stamp>
-    ensures standing { (ops : ListOf Op) → AreApplied ops → HoldStands ops tracks.now → result
+    ensures standing { (ops : ListOf OpValue) → AreApplied ops → HoldStands ops tracks.now → result
         ≡ standing ops op.now }
     ensures there { IfSome result (λ track. is_some (lookup (stamp_eq track) tracks.now) ≡ true) }
 {
@@ -51,9 +51,9 @@ fn taken_track<A: Allocator + Clone>(
     requires there { is_some (lookup (stamp_eq track) tracks.old) ≡ true }
     requires clips { AreClips clips.items }
     ensures ok { IfOk result (λ view. IfSome (lookup (stamp_eq track) tracks.old)
-        (λ cells. (ops : ListOf Op) → HoldsTrack track ops cells → Some view
+        (λ cells. (ops : ListOf OpValue) → HoldsTrack track ops cells → Some view
         ≡ track_from ops track clips.items (last_write title_written track ops))) }
-    ensures stand { OnOk result ((ops : ListOf Op) → HoldStands ops tracks.old
+    ensures stand { OnOk result ((ops : ListOf OpValue) → HoldStands ops tracks.old
         → HoldStands ops tracks.new) }
     ensures others { OnOk result ((other : Stamp) → track ≢ other
         → lookup (stamp_eq other) tracks.new ≡ lookup (stamp_eq other) tracks.old) }
@@ -101,7 +101,7 @@ pub(crate) fn taken_tracks<A: Allocator + Clone>(
     items: ItemStates<A>,
 ) -> Result<(Vec<TrackView<A>, A>, Vec<(Stamp, MarkerCells<A>), A>), AllocError>
     requires applied { AreApplied items }
-    requires same { (f : Op → ℕ) → sum_by f items ≡ sum_by f (map (λ o. o.now) ready.now) }
+    requires same { (f : OpValue → ℕ) → sum_by f items ≡ sum_by f (map (λ o. o.now) ready.now) }
     requires rising { RisesStrictly op_cmp (map (λ o. o.now) ready.now) }
     requires tree { IsTree (places_in (map (λ o. o.now) ready.now)) }
     ensures tracks { IfOk result (λ both. both.0.items ≡ tracks_in items) }

@@ -7,7 +7,7 @@ ghost use Rattle.std.specs.List.{filter_map};
 ghost use Rattle.mt_stamp.specs.StampOrder.{Stamp, stamp_cmp};
 ghost use Rattle.mt_stamp.specs.Sorting.{DifferBy};
 ghost use Rattle.mt_op.specs.ByStamp.{stamp_of};
-ghost use Rattle.mt_op.specs.OpValue.{Op};
+ghost use Rattle.mt_op.specs.OpValue.{Op as OpValue};
 ghost use Rattle.mt_op.specs.Writes.{title_written, track_place_written, last_write};
 ghost use Rattle.session_state.specs.Cells.{HoldsTrack};
 ghost use Rattle.session_state.specs.Fields.{HoldsLast};
@@ -70,7 +70,8 @@ fn track_from<A: Allocator + Clone>(
     clips: Vec<ClipView, A>,
 ) -> Result<TrackView<A>, AllocError>
     requires clips { AreClips clips.items }
-    ensures ok { IfOk result (λ view. (ops : ListOf Op) → HoldsTrack track ops cells.now → Some view
+    ensures ok { IfOk result (λ view. (ops : ListOf OpValue) → HoldsTrack track ops cells.now
+        → Some view
         ≡ track_from ops track clips.items (last_write title_written track ops)) }
 {
     let Ok(title) = cells.title.get().try_clone() else {
@@ -81,7 +82,7 @@ fn track_from<A: Allocator + Clone>(
 
 // Whether a track is present and stands at a place, from its cells.
 pub(crate) fn stands_at<A: Allocator>(track: Stamp, cells: &TrackCells<A>, place: Stamp) -> bool
-    ensures { (ops : ListOf Op) → HoldsLast track_place_written track ops cells.now.place
+    ensures { (ops : ListOf OpValue) → HoldsLast track_place_written track ops cells.now.place
         → HoldsTags track ops cells.now.presence → result ≡ stands_at ops track place }
 {
     cells.place.stamp() == place && cells.presence.is_present()

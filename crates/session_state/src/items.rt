@@ -8,7 +8,7 @@ ghost use Rattle.std.specs.List.Sorted.{IsStrictlySortedBy};
 ghost use Rattle.mt_stamp.specs.StampOrder.{Stamp, stamp_cmp};
 ghost use Rattle.mt_stamp.specs.Written.{Written};
 ghost use Rattle.mt_op.specs.declared.need.Role.TheVariants.{Track, Clip, Marker};
-ghost use Rattle.mt_op.specs.OpValue.{Op};
+ghost use Rattle.mt_op.specs.OpValue.{Op as OpValue};
 ghost use Rattle.mt_op.specs.Needs.{need_of};
 ghost use Rattle.mt_op.specs.Presence.{is_present, is_listed, live_tags};
 ghost use Rattle.mt_op.specs.Writes.{title_written, gain_written, mute_written};
@@ -56,11 +56,11 @@ pub struct ItemStates<A: Allocator = Global> {
 impl<A: Allocator> Model for ItemStates<A> {
     ghost use Rattle.std.specs.Prelude.{List};
     ghost use Rattle.std.specs.Coded.{coded_list};
-    ghost use Rattle.mt_op.specs.OpValue.{Op};
+    ghost use Rattle.mt_op.specs.OpValue.{Op as OpValue};
     ghost use Rattle.mt_op.specs.Codes.{operation_code};
     ghost use Rattle.session_state.specs.All.{HoldsAll};
 
-    ghost Value = { List Op };
+    ghost Value = { List OpValue };
 
     ghost coded = { coded_list operation_code };
 

@@ -7,7 +7,7 @@ ghost use Rattle.std.specs.List.Sorted.{IsPermutation};
 ghost use Rattle.std.specs.declared.cmp.Ordering.TheVariants.{Less};
 ghost use Rattle.mt_stamp.specs.StampOrder.{Stamp};
 ghost use Rattle.mt_stamp.specs.Sorting.{Rises};
-ghost use Rattle.mt_op.specs.OpValue.{Op};
+ghost use Rattle.mt_op.specs.OpValue.{Op as OpValue};
 ghost use Rattle.mt_op.specs.ByStamp.{op_cmp};
 ghost use Rattle.mt_op.specs.Needs.{needs, meets, clock_of, names_are_older};
 ghost use Rattle.mt_op.specs.Ready.{ready};
@@ -17,21 +17,23 @@ ghost use Rattle.session_state.specs.Laws.{AnswerAlike};
 /// One pass over operations by rising stamp, each noted where those noted meet its needs, notes
 /// exactly the ready ones, where each operation names older ones, as each `Op` does.
 pub fn ready_in_one_pass()
-    ensures { (s : List Op) → AllByRecursion (λ o. IsTrue (names_are_older o)) s → Rises op_cmp s
+    ensures { (s : List OpValue) → AllByRecursion (λ o. IsTrue (names_are_older o)) s
+        → Rises op_cmp s
         → one_pass [] s ≡ reverse (ready clock_of needs meets s) }
 {}
 
 /// Each answer depends on which operations were noted, and not on the order in which they were.
 pub fn any_order()
-    ensures { (r u : List Op) → AreApplied r → IsPermutation r u → AnswerAlike r u }
+    ensures { (r u : List OpValue) → AreApplied r → IsPermutation r u → AnswerAlike r u }
 {}
 
 /// A stamp is new where it is greater than that of each operation noted, and where it is not in a
 /// set that has each of these.
 pub fn new_stamps()
-    ensures greater { (ops : List Op) (o : Op) → AllByRecursion (λ x. op_cmp x o ≡ Less) ops
+    ensures greater { (ops : List OpValue) (o : OpValue)
+        → AllByRecursion (λ x. op_cmp x o ≡ Less) ops
         → is_applied ops o.stamp ≡ false }
-    ensures unlisted { (ops s : List Op) (stamp : Stamp)
+    ensures unlisted { (ops s : List OpValue) (stamp : Stamp)
         → AllByRecursion (λ x. is_applied s x.stamp ≡ true) ops → is_applied s stamp ≡ false
         → is_applied ops stamp ≡ false }
 {}

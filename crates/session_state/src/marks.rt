@@ -25,10 +25,10 @@ pub struct ItemPresence<A: Allocator> {
 
 impl<A: Allocator> Model for ItemPresence<A> {
     ghost use Rattle.std.specs.Prelude.{box_value, option_map};
-    ghost use Rattle.mt_cells.specs.PresenceValue.{Presence, marks_code};
+    ghost use Rattle.mt_cells.specs.PresenceValue.{Presence as PresenceValue, marks_code};
     ghost use Rattle.session_state.specs.Tags.{marks_from};
 
-    ghost Value = { Presence };
+    ghost Value = { PresenceValue };
 
     ghost coded = { marks_code };
 

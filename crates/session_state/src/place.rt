@@ -3,7 +3,7 @@
 ghost use Rattle.std.specs.Prelude.{◌≡◌, None, ◌∷◌, List, OnOk};
 ghost use Rattle.std.specs.Map.{lookup};
 ghost use Rattle.mt_stamp.specs.StampOrder.{stamp_eq};
-ghost use Rattle.mt_op.specs.OpValue.{Op};
+ghost use Rattle.mt_op.specs.OpValue.{Op as OpValue};
 ghost use Rattle.session_state.specs.All.{HoldsPlaces};
 
 use base_stampmap::StampMap;
@@ -16,7 +16,7 @@ pub(crate) fn apply<A: Allocator + Clone>(
     op: &Op<A>,
 ) -> Result<(), AllocError>
     requires new { lookup (stamp_eq op.now.stamp) places.old ≡ None }
-    ensures ok { OnOk result ((ops : List Op) → HoldsPlaces ops places.old
+    ensures ok { OnOk result ((ops : List OpValue) → HoldsPlaces ops places.old
         → HoldsPlaces (op.now ∷ ops) places.new) }
 {
     if op.fits(&Role::Place) {

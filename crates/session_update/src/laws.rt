@@ -2,7 +2,7 @@
 //! which does nothing.
 
 ghost use Rattle.std.specs.Prelude.{List, ◌∷◌};
-ghost use Rattle.mt_op.specs.OpValue.{Op};
+ghost use Rattle.mt_op.specs.OpValue.{Op as OpValue};
 ghost use Rattle.session_state.specs.Applying.{AreApplied};
 ghost use Rattle.session_update.specs.Updating.{ClipsAreFound, EntriesAreShown, EntriesStandOnce};
 ghost use Rattle.session_update.specs.Updating.{MarkersAreFound, AppliedAreTheSession};
@@ -20,7 +20,7 @@ pub fn applied_session()
 /// An entry of a stamp is the marker, the clip of a track or the track of this stamp that the
 /// session shows, and nothing else.
 pub fn shown_entries()
-    ensures { (ops : List Op) → AreApplied ops → EntriesAreShown ops }
+    ensures { (ops : List OpValue) → AreApplied ops → EntriesAreShown ops }
 {}
 
 /// One more operation changes among the markers that of its item alone.
@@ -58,7 +58,7 @@ pub fn places_stay()
 /// An item that is no marker leaves the markers, one that is no clip leaves the clips of every
 /// track, and one that is no track changes the clips of tracks alone.
 pub fn kinds_apart()
-    ensures { (o : Op) (ops : List Op) → AreApplied (o ∷ ops) → ItemsAreOfAKind o ops }
+    ensures { (o : OpValue) (ops : List OpValue) → AreApplied (o ∷ ops) → ItemsAreOfAKind o ops }
 {}
 
 /// A track on which the clip that an operation is about neither was nor is keeps its clips.
@@ -78,5 +78,5 @@ pub fn found_clips()
 
 /// No two entries have one stamp, so that of a stamp is taken out at its index.
 pub fn entries_once()
-    ensures { (ops : List Op) → AreApplied ops → EntriesStandOnce ops }
+    ensures { (ops : List OpValue) → AreApplied ops → EntriesStandOnce ops }
 {}

@@ -2,7 +2,7 @@
 
 ghost use Rattle.std.specs.Prelude.{◌≡◌, ◌++◌, true, None, Some, IfOk, IfSome, OnOk, slice_get};
 ghost use Rattle.std.specs.FinMap as map;
-ghost use Rattle.mt_op.specs.OpValue.{Op};
+ghost use Rattle.mt_op.specs.OpValue.{Op as OpValue};
 ghost use Rattle.mt_op.specs.Dots.{op_dot};
 ghost use Rattle.mt_opcodec.specs.Sets.{Has, IsSet};
 ghost use Rattle.mt_opcodec.specs.Union.{union};
@@ -119,7 +119,7 @@ impl<A: Allocator + Clone> Peer<A> {
     /// sent.
     pub fn send(&self, alloc: &A, sent: Sent<A>) -> Result<Sent<A>, AllocError>
         requires whole { IsWhole self.now }
-        requires saved { (o : Op) → Has self.now.saved o → is_sent sent o ≡ true }
+        requires saved { (o : OpValue) → Has self.now.saved o → is_sent sent o ≡ true }
         ensures ok { IfOk result (λ new. new ≡ sent ++ unsent sent (peer_of self.now).taken) }
     {
         // for the proof: that both are logs of operations by rising dot

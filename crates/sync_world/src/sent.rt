@@ -19,10 +19,10 @@ pub(crate) struct Sent<A: Allocator = Global> {
 
 impl<A: Allocator> Model for Sent<A> {
     ghost use Rattle.std.specs.Prelude.{List};
-    ghost use Rattle.mt_op.specs.OpValue.{Op};
+    ghost use Rattle.mt_op.specs.OpValue.{Op as OpValue};
     ghost use Rattle.sync_world.specs.Sending.{HasDotsOf};
 
-    ghost Value = { List Op };
+    ghost Value = { List OpValue };
 
     ghost view = { λ s. s.ops.items };
 

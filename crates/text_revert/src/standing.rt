@@ -25,10 +25,10 @@ pub(crate) struct StandingAct<A: Allocator> {
 
 impl<A: Allocator> Model for StandingAct<A> {
     ghost use Rattle.mt_stamp.specs.Written.{Written};
-    ghost use Rattle.mt_op.specs.OpValue.{Body};
+    ghost use Rattle.mt_op.specs.OpValue.{Body as BodyValue};
     ghost use Rattle.mt_op.specs.Bodies.{act_of};
 
-    ghost Value = { Written Body };
+    ghost Value = { Written BodyValue };
 
     ghost view = { λ s. record { writer = s.writer; value = act_of s.body } };
 }

@@ -3,7 +3,7 @@
 ghost use Rattle.std.specs.Prelude.{◌≡◌, ◌↔◌, ℕ, ◌<◌, ◌≤◌, List, [], None};
 ghost use Rattle.mt_op.specs.declared.digest.Digest.{Digest};
 ghost use Rattle.mt_render.specs.Sources.{Sources, found};
-ghost use Rattle.mt_sessionview.specs.SessionValue.{Session};
+ghost use Rattle.mt_sessionview.specs.SessionValue.{Session as SessionValue};
 ghost use Rattle.text_svg.specs.Peaks.{magnitude, peak, IsHeard, IsInColumn, IsDrawnAt};
 ghost use Rattle.text_svg.specs.Svg.{svg_text};
 
@@ -27,6 +27,7 @@ pub fn peak_is_greatest()
 /// Where no recording is at hand, the picture is the one without any: no box has an element for its
 /// peaks.
 pub fn without_recordings()
-    ensures { (rate : ℕ) (sources : Sources) (c : Session) → ((d : Digest) → found sources d ≡ None)
+    ensures { (rate : ℕ) (sources : Sources) (c : SessionValue)
+        → ((d : Digest) → found sources d ≡ None)
         → svg_text rate sources c ≡ svg_text rate [] c }
 {}
