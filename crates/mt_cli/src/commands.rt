@@ -54,7 +54,7 @@ fn log_and_others<'n>(
     Ok(names)
 }
 
-// At how many frames a second times are told or read, where these words ask for times.
+// At how many frames per second times are told or read, where these words ask for times.
 fn rate_of_times(words: &ArgMatches<'_>) -> Option<u32> {
     if !words.get_flag("time") {
         return None;
