@@ -182,7 +182,7 @@ fn rewritten<A: Allocator>(
 /// The lines of a text with times in the place of frames.
 ///
 /// The text is one that `radio` prints. Each position and length in it that is a decimal number up
-/// to 2^50 becomes the time that so many frames last at `rate` frames a second, 1 and more, as
+/// to 2^50 becomes the time that so many frames last at `rate` frames per second, 1 and more, as
 /// `H:MM:SS.mmm`, rounded down; all else is as it was, and so are the line feeds. In time linear in
 /// the text. Fails where memory runs out.
 pub fn timed_text<A: Allocator>(alloc: A, rate: u32, text: &[u8]) -> Result<Vec<u8, A>, AllocError>
@@ -195,12 +195,12 @@ pub fn timed_text<A: Allocator>(alloc: A, rate: u32, text: &[u8]) -> Result<Vec<
 /// A script with frames in the place of times, and fractions in the place of decibels.
 ///
 /// Each position and length in a line of the script that is a time (`H:MM:SS`, `H:MM:SS.f`, `Ss` or
-/// `S.fs`) is the frame that is nearest to it at `rate` frames a second, 1 and more, and each gain
-/// that is a level (`-6dB`) the nearest `NUM/DEN`; all else is as it was, and so are the line
+/// `S.fs`) is the frame that is nearest to it at `rate` frames per second, 1 and more, and each
+/// gain that is a level (`-6dB`) the nearest `NUM/DEN`; all else is as it was, and so are the line
 /// feeds. What is neither a number nor a time stays, for who reads the script to refuse in the same
 /// line. In time linear in the script.
 ///
-/// An error where an allocation failed.
+/// An error if an allocation failed.
 pub fn with_frames<A: Allocator>(
     alloc: A,
     rate: u32,

@@ -242,7 +242,7 @@ fn append_set_marker_length<A: Allocator>(
 }
 
 /// Writes what an operation does after what `text` holds, in the words of a log's text. Refused
-/// only where an allocation failed; `text` then holds a part of these words behind what it held.
+/// only if an allocation failed; `text` then holds a part of these words behind what it held.
 pub fn append_act<A: Allocator, B: Allocator, C: Allocator>(
     alloc: &A,
     text: &mut String<B>,

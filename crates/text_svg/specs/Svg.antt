@@ -181,7 +181,7 @@ picture rate span bottom sources c =
     ++ (each (track_text sources span) 0 c.tracks ++ (each (marker_text span bottom) 0 c.markers
         ++ codes "</svg>\n")))))
 
--- at so many frames a second, with the recordings that are at hand
+-- at this many frames per second, with the recordings that are at hand
 abbrev pub svg_text : ℕ → Sources → Session → List ℕ
 svg_text rate sources c = picture rate (span c.tracks c.markers) (row_top (length c.tracks)) sources
     c

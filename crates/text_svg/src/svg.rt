@@ -97,7 +97,7 @@ fn append_picture<A: Allocator, B: Allocator + Clone, C: Allocator, D: Allocator
 /// The picture of a session with the peaks of the recordings at hand: one element `svg` of SVG 1.1,
 /// well-formed XML in UTF-8, ended by a line feed. The page on output describes it.
 ///
-/// Times are at `rate` frames a second, 1 and more. Linear in the session's clips, markers and
+/// Times are at `rate` frames per second, 1 and more. Linear in the session's clips, markers and
 /// titles, and in the samples of the frames that are drawn. Fails where memory runs out, or where
 /// there are 2^32 tracks or more.
 pub fn svg_text<A: Allocator + Clone, B: Allocator, C: Allocator>(

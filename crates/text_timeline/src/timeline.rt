@@ -49,9 +49,9 @@ fn append_lines<A: Allocator + Clone, B: Allocator, C: Allocator>(
 /// track, and a last line with the span and the frames of a column. The page on output describes
 /// it.
 ///
-/// Times are at `rate` frames a second, 1 and more, rounded down. In a time of n log n for n clips
-/// and markers, and of `width` times the logarithm of its clips for each track. Fails where memory
-/// runs out.
+/// Times are at `rate` frames per second, 1 and more, rounded down. In a time of n log n for n
+/// clips and markers, and of `width` times the logarithm of its clips for each track. Fails where
+/// memory runs out.
 pub fn timeline_text<A: Allocator + Clone, B: Allocator>(
     alloc: A,
     width: u16,
