@@ -26,8 +26,7 @@ is_of stamp (Some o) = stamp_eq o.stamp stamp
 abbrev pub first_missing : LogMap → List Stamp → Option Stamp
 first_missing log stamps = find (λ stamp. not (is_of stamp (fin.get log (dot_of stamp)))) stamps
 
--- ---- the state when a line is read: the lines of the later operations that are taken back were
--- read before it
+-- ---- the state when a line is read: the lines of the later operations were read before it
 
 -- whether an operation added, removed or restored this item
 abbrev pub changed_presence : Stamp → TakenBack → Bool
