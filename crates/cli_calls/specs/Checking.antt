@@ -34,7 +34,7 @@ ChecksSession form layout head session ops texts (Err (Mix fault)) = IsMixRefusa
     layout head fault
 ChecksSession form layout head session ops texts (Err _) = ⊥
 
--- what readers gave: a log, and wave files
+-- what the readers gave: a log, and wave files
 pub record LogAndWaves : Type 0 where
   pub log : LogMap
   pub texts : List (List ℕ)

@@ -55,7 +55,7 @@ IsNoLogAs false index bytes _ = ⊥
 abbrev pub IsNoLogOf : ℕ → List ℕ → CliFault → Type 0
 IsNoLogOf index bytes fault = IsNoLogAs (begins_as_frame bytes) index bytes fault
 
--- ---- what is read
+-- ---- reading the inputs
 
 module _ {R : Type 0} (remaining : R → Option (List ℕ)) where
   -- the input gave bytes, and this is the log that they encode
@@ -84,7 +84,7 @@ module _ {R : Type 0} (remaining : R → Option (List ℕ)) where
           × (GaveLogOf left m × (IsRead remaining left' × GaveNoLog 1 right right' fault)))
   TwoLogsCause _ _ fault = ⊥
 
--- ---- what is made
+-- ---- the result
 
 -- `diff`: the text about two logs, in a form of lines
 abbrev pub diff_in : {Z : Type 0} → TextOptions → DiffKind → TwoLogs Z → List ℕ

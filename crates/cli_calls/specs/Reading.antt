@@ -69,7 +69,8 @@ module _ {R : Type 0} (remaining : R → Option (List ℕ)) where
   abbrev pub AreRead : List (Latch R) → Type 0
   AreRead = AllByRecursion IsRead
 
-  -- what a reader has left is a rest of what it had; a reader whose latch had failed is unchanged
+  -- the bytes that a reader has left are a suffix of those that it had; a reader whose latch had
+  -- failed is unchanged
   abbrev pub IsRest : Latch R → Latch R → Type 0
   IsRest old new = ConsumesPrefix (remaining old.inner) (remaining new.inner)
       × (old.failed ≡ true → new ≡ old)
@@ -116,8 +117,8 @@ module _ {R : Type 0} (remaining : R → Option (List ℕ)) where
   GaveBoth _ both = ⊥
 
   -- Why the two readers gave nothing: the log was not read, and the other input was not read
-  -- either; or the log was read, and the other input was not. What either has left is a rest of
-  -- what it had.
+  -- either; or the log was read, and the other input was not. Each reader has a suffix of its bytes
+  -- left.
   abbrev pub BothCause : List (Latch R) → List (Latch R) → CliFault → Type 0
   BothCause (log ∷ (other ∷ [])) (log' ∷ (other' ∷ [])) fault =
       (IsCause 0 log log' fault × (other' ≡ other)) ⊎ ((m : LogMap)

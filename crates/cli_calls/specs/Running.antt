@@ -6,7 +6,7 @@ use Rattle.cli_calls.specs.declared.fault.CliFault.{CliFault}
 use Rattle.cli_calls.specs.Reading.{AreRead}
 use Rattle.cli_calls.specs.Writing.{MadeWritten, MadeFails, Outputs, BothWritten, BothFail}
 
--- what is lent to a command, before or after it: its inputs, and its output
+-- the inputs and the output that are lent to a command, before or after it
 pub record Lent (I O : Type 0) : Type 0 where
   pub inputs : I
   pub output : O
@@ -67,8 +67,8 @@ pub record RanAndPrinted {R W T X : Type 0} (remaining : R → Option (List ℕ)
   pub written : OnOk result (Done Given (λ x. BothWritten contents prints (Makes x)) before after)
   -- Each input has then been read to its end.
   pub read : OnOk result (AreRead remaining after.inputs)
-  -- If it fails, no input after the one at fault was read, and the outputs hold a prefix of what is
-  -- made, the text after all bytes.
+  -- If it fails, no input after the one at fault was read, and the outputs hold a prefix of the
+  -- result, the text after all bytes.
   pub refused : IfErr result (NotDone Given Cause (AreRead remaining)
       (λ x. BothFail contents prints (Makes x)) before after)
   -- An output that had failed is unchanged.

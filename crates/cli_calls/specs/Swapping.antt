@@ -1,5 +1,5 @@
--- The results of the commands by which editors exchange operations, for a log and what another
--- editor sent.
+-- The results of the commands by which editors exchange operations, for a log and the bytes that
+-- another editor sent.
 use Rattle.std.specs.Prelude.{◌≡◌, ◌≢◌, ℕ, true, List, [], Option, Some, None, Result, Ok, Err}
 use Rattle.std.specs.Prelude.{OnOk, IfErr, ◌⊎◌}
 use Rattle.base_io.specs.Latch.{Latch}
@@ -37,12 +37,12 @@ Lacking log asked (Err (Message fault)) = (fault ≢ message.Memory)
     × Lacks {X = List ℕ} (λ out. out) log asked (Err fault)
 Lacking log asked (Err _) = ⊥
 
--- what another editor sent ends with Bye, and extends the log to this set
+-- the bytes that another editor sent end with Bye, and extend the log to this set
 abbrev pub Taken : LogMap → List ℕ → LogMap → Type 0
 Taken log sent set = TakesAll (receives (end_at (awaits_ops None) [] (Some log)) sent) (Ok tt)
     (Some set)
 
--- what another editor sent is not taken
+-- the bytes that another editor sent are not taken
 abbrev pub NotTaken : LogMap → List ℕ → CliFault → Type 0
 NotTaken log sent Memory = Unit {0}
 NotTaken log sent (Sync fault) = (fault ≢ sync.Talk talk.Memory)
@@ -65,7 +65,7 @@ TakeMakes both = Taking both.log both.bytes.items
 
 -- ---- by a conversation
 
--- what is lent to a conversation, before or after it: the holder's set (none if the holder has
+-- the state of a conversation's ends, before or after it: the holder's set (none if the holder has
 -- failed), the reader and the writer of the other end, and the output
 pub record TalkLent (R W O : Type 0) : Type 0 where
   pub set : Option LogMap
@@ -122,7 +122,7 @@ abbrev pub HeldMakes : Option LogMap → Result (List ℕ) CliFault → Type 0
 HeldMakes set (Ok bytes) = (log : LogMap) × ((set ≡ Some log) × (bytes ≡ text_of log))
 HeldMakes set (Err _) = ⊥
 
--- what the holder has left if its text was not written
+-- the set that the holder has left if its text was not written
 abbrev pub LendLeaves : Option LogMap → Option LogMap → CliFault → Type 0
 LendLeaves old new Memory = StaysOrFails old new
 LendLeaves old new _ = new ≡ old

@@ -1,4 +1,4 @@
--- Writing what a command makes: bytes, or a fault.
+-- Writing the result of a command: bytes, or a fault.
 use Rattle.std.specs.Prelude.{◌≡◌, ℕ, true, false, List, Option, Result, Ok, Err, OnOk, IfErr}
 use Rattle.std.specs.Io.KnownBytes.{Appends}
 use Rattle.base_io.specs.Latch.{Latch, AppendsPrefix}

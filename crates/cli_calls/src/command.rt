@@ -14,7 +14,7 @@ use base_io::Latch;
 use std::alloc::Allocator;
 use std::io::{Read, Write};
 
-/// The inputs of a command: how many readers there are, and what they give.
+/// The inputs of a command: the number of readers, and the value that they give.
 pub(crate) trait Input<A: Allocator> {
     /// The value that the readers give.
     type Value;

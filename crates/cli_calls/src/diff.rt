@@ -19,7 +19,7 @@ use std::alloc::{AllocError, Allocator, Global};
 use std::io::{Read, Write};
 use text_diff::{diff_text, diff_with_fields_text, view_diff_text};
 
-/// What a comparison of two logs prints.
+/// The kinds of comparison of two logs.
 #[derive(Clone, Copy, Debug, PartialEq, Eq)]
 pub enum DiffKind {
     /// The operations that only one of the logs has: the text of `diff_text`.

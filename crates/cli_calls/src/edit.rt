@@ -76,7 +76,8 @@ fn made_of<A: Allocator + Clone>(
     Ok(Made { bytes, text })
 }
 
-// What the editor of this name makes from a log by a script.
+// The log that the editor of this name makes by a script, as bytes, and the line with the number of
+// changes.
 fn edited<A: Allocator + Clone>(
     alloc: A,
     name: Replica,

@@ -1,4 +1,4 @@
-//! Summarising what a log has.
+//! Summarising the operations of a log.
 
 ghost use Rattle.std.specs.Prelude.{◌≡◌, length};
 ghost use Rattle.cli_calls.specs.Faults.{message_fault};

@@ -1,4 +1,4 @@
-//! Finding what a log has and another editor lacks.
+//! Finding the operations that a log has and another editor lacks.
 
 ghost use Rattle.std.specs.Prelude.{◌≡◌, length};
 ghost use Rattle.cli_calls.specs.Reading.{GaveBoth, BothCause};

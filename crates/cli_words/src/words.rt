@@ -9,7 +9,7 @@ use std::io::Write;
 /// All commands, in lists, in the order in which help prints them.
 pub type Lists = [&'static [Words]; 4];
 
-/// What the program is, and the number of its version.
+/// The description of the program, and the number of its version.
 pub const ABOUT: &str = "A nondestructive multitrack audio editor whose sessions are replicated";
 
 pub const NUMBER: &str = "0.1.0";
@@ -469,7 +469,7 @@ fn files<'a>(alloc: Global, name: &'a str, help: &'a str) -> Arg<'a> {
         .help(help)
 }
 
-/// The option of all commands.
+/// The parser's argument for `--why`, the option of all commands.
 pub fn why_flag<'a>(alloc: Global) -> Arg<'a> {
     free_word_of(alloc, &WHY)
 }

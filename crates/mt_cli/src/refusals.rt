@@ -4,7 +4,7 @@ ghost use Rattle.std.specs.Prelude.{◌≡◌, ◌≢◌, ◌↔◌, ◌<◌, No
 ghost use Rattle.std.specs.List.{AllByRecursion};
 ghost use Rattle.mt_cli.specs.declared.refusals.Refusal.{Refusal as RefusalOf};
 
-/// A refusal.
+/// A refusal, as `radio explain` prints it.
 #[derive(Debug, Drop)]
 pub struct Refusal {
     /// The number in `radio: fault N`.

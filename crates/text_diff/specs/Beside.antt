@@ -63,7 +63,7 @@ abbrev pub told_of : Bool → LogMap → LogMap → List Told
 told_of right one other = map (told_as right false) (alone one other)
     ++ map (told_as right true) (conflicting one other)
 
--- by stamp; of two with one stamp that of the left log comes first
+-- by stamp; of two with equal stamps, that of the left log comes first
 abbrev pub told_cmp : Told → Told → Ordering
 told_cmp a b = ordering_then (stamp_cmp a.op.stamp b.op.stamp) (bool_cmp a.right b.right)
 

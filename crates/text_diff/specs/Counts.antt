@@ -16,8 +16,8 @@ counts_line left right both conflicts =
         ++ (counted (codes " both ") both ++ (counted (codes " clashes ") conflicts ++ newline
         ∷ [])))
 
--- the last line for two logs: a dot that names two operations is counted once, as a clash, and in
--- no other number
+-- the last line for two logs: a dot that names two operations is counted once, under `clashes`, and
+-- in no other number
 abbrev pub last_line : LogMap → LogMap → List ℕ
 last_line left right =
     counts_line (length (alone left right)) (length (alone right left)) (length (shared left right))

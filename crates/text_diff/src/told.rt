@@ -59,8 +59,8 @@ fn push_parts<'a, A: Allocator, B: Allocator>(
     push_told(told, &parts.conflicting, right, true)
 }
 
-/// The reported operations of two logs, by rising stamp; of two with one stamp that of the left log
-/// comes first. The parts are those of the logs.
+/// The reported operations of two logs, by rising stamp; of two with equal stamps, that of the left
+/// log comes first. The parts are those of the logs.
 pub(crate) fn told_ops<'a, A: Allocator + Clone>(
     alloc: &A,
     left: &Log<A>,
