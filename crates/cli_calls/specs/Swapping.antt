@@ -65,8 +65,8 @@ TakeMakes both = Taking both.log both.bytes.items
 
 -- ---- by a conversation
 
--- the state of a conversation's ends, before or after it: the holder's set (none if the holder has
--- failed), the reader and the writer of the other end, and the output
+-- the state before or after a conversation: the holder's set (none if the holder has failed), the
+-- reader from the other end, the writer to it, and the output
 pub record TalkLent (R W O : Type 0) : Type 0 where
   pub set : Option LogMap
   pub reader : Latch R
@@ -127,7 +127,7 @@ abbrev pub LendLeaves : Option LogMap → Option LogMap → CliFault → Type 0
 LendLeaves old new Memory = StaysOrFails old new
 LendLeaves old new _ = new ≡ old
 
--- Operations were swapped with the other end of a conversation, and the log of the holder was
+-- Operations were exchanged with the other end of a conversation, and the log of the holder was
 -- written.
 pub record Swapped {R W O : Type 0} (remaining : R → Option (List ℕ)) (sent : W → Option (List ℕ))
     (contents : O → Option (List ℕ)) (side : Side) (before after : TalkLent R W O)

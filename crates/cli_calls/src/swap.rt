@@ -1,4 +1,4 @@
-//! Swapping operations in a conversation.
+//! Exchanging operations in a conversation.
 
 ghost use Rattle.std.specs.Prelude.{◌≡◌, true};
 ghost use Rattle.cli_calls.specs.Swapping.{lent_talk, Swapped};
@@ -11,9 +11,9 @@ use mt_sync::{OpStore, Side, converse};
 use std::alloc::{Allocator, Global};
 use std::io::{Read, Write};
 
-/// Swaps operations with the other end of a conversation, and then writes the log of the holder,
-/// which is an editor or a log that takes operations. `frames` is the allocator for the bytes of an
-/// incomplete frame.
+/// Exchanges operations with the other end of a conversation, and then writes the log of the
+/// holder, which is an editor or a log that takes operations. `frames` is the allocator for the
+/// bytes of an incomplete frame.
 ///
 /// Errors, in this order: `Sync`, as the error of `converse`: a writer (37) or reader (45) whose
 /// latch has failed, an input that ends before the conversation (49), or what stops the

@@ -9,7 +9,7 @@ use std::io::Write;
 /// The language in which a text is written.
 #[derive(Clone, Copy)]
 pub(crate) enum Language {
-    /// A page of the manual.
+    /// A manual page.
     Roff,
     /// Between single quotes, for `_arguments` of zsh.
     Zsh,

@@ -118,8 +118,8 @@ fn limit<S: OpenStream>(stream: &S, wait: Option<Duration>) -> Result<(), CliFau
     }
 }
 
-// Swaps operations with the other end of a stream, which is read and written through two handles,
-// and writes the extended log into a file.
+// Exchanges operations with the other end of a stream, which is read and written through two
+// handles, and writes the extended log into a file.
 fn swap<F: Files<File = File> + AllocGlobal, S: Read + Write + OpenStream + Drop>(
     rt: &F,
     opened: OpenGrowing,

@@ -1,4 +1,4 @@
-//! Which clips of a track are on top at one of their frames.
+//! Which clips of a track are on top in at least one of their frames.
 
 ghost use Rattle.std.specs.Prelude.{◌≡◌, ◌≢◌, ℕ, ◌<◌, ◌||◌, true, length, IfOk};
 ghost use Rattle.mt_stamp.specs.Sorting.{DifferBy};

@@ -74,7 +74,7 @@ fn append_fade_out<A: Allocator>(
     append_falling(text, width, units(span, u64::from(frames)))
 }
 
-// Opens the box of a clip.
+// Appends the beginning of a clip's box.
 fn append_clip_head<A: Allocator>(
     text: &mut String<A>,
     x: u64,
