@@ -195,12 +195,11 @@ fn append_line(alloc: Global, json: &mut Vec<u8>, line: &[u8]) -> Result<(), All
 
 /// The lines of a text as JSON, an object and a line feed for each.
 ///
-/// The text must be one that `radio` prints; the page on output describes how its lines are read,
-/// and a last line feed ends the last line. The members of an object are in the order of the line,
-/// each named as its key or its slot. Numbers, positions and lengths are JSON numbers, `on` and
-/// `off` are true and false, fades and tags are arrays, a key that nothing follows is true, other
-/// texts are strings, and a text that is not UTF-8 is null. Takes linear time. Fails if memory runs
-/// out.
+/// The text is one that `radio` prints; the page on output describes how its lines are read, and a
+/// last line feed ends the last line. The members of an object are in the order of the line, each
+/// named as its key or its slot. Numbers, positions and lengths are JSON numbers, `on` and `off`
+/// are true and false, fades and tags are arrays, a key that nothing follows is true, other texts
+/// are strings, and a text that is not UTF-8 is null. Takes linear time. Fails if memory runs out.
 pub fn json_text(alloc: Global, text: &[u8]) -> Result<Vec<u8>, AllocError>
     ensures { IfOk result (λ json. json.items ≡ json_text text.now) }
 {

@@ -181,10 +181,10 @@ fn rewritten<A: Allocator>(
 
 /// The lines of a text with times in the place of frames.
 ///
-/// The text must be one that `radio` prints. Each position and length in it that is a decimal
-/// number up to 2^50 is replaced by the duration of this many frames at `rate` frames per second, 1
-/// or more, as `H:MM:SS.mmm`, rounded down. Everything else is unchanged, line feeds included.
-/// Takes linear time. Fails if memory runs out.
+/// The text is one that `radio` prints. Each position and length in it that is a decimal number up
+/// to 2^50 is replaced by the duration of this many frames at `rate` frames per second, 1 or more,
+/// as `H:MM:SS.mmm`, rounded down. Everything else is unchanged, line feeds included. Takes linear
+/// time. Fails if memory runs out.
 pub fn timed_text<A: Allocator>(alloc: A, rate: u32, text: &[u8]) -> Result<Vec<u8, A>, AllocError>
     requires { 1 ≤ rate }
     ensures { IfOk result (λ timed. timed.items ≡ timed_text rate text.now) }
