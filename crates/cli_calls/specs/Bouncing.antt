@@ -1,4 +1,4 @@
--- The file of logs and recordings, and why it is not written.
+-- The file rendered from logs and recordings, and why it is not written.
 use Rattle.std.specs.Prelude.{◌≡◌, ◌≢◌, ℕ, ◌^◌, ◌≤◌, List, length, Option, Result, Ok, Err, ◌⊎◌}
 use Rattle.base_io.specs.Latch.{Latch}
 use Rattle.mt_opcodec.specs.LogValue.{LogMap, operations}
@@ -31,7 +31,7 @@ programme session texts layout = record { tracks = session.tracks; sources = sou
 abbrev pub session_of_logs : List LogMap → Session
 session_of_logs logs = session_of (operations (union_all logs))
 
--- A file is written where the programme can be mixed and the file is not too long.
+-- A file can be written if the programme can be mixed and the file is not too long.
 pub record CanBounce (session : Session) (texts : List (List ℕ)) (layout : Format) (head : HeadText)
     : Type 0 where
   pub mixable : IsMixable (programme session texts layout)
@@ -41,7 +41,7 @@ pub record CanBounce (session : Session) (texts : List (List ℕ)) (layout : For
 abbrev pub session_file : Session → List (List ℕ) → Format → HeadText → List ℕ
 session_file session texts layout head = file (programme session texts layout) session.markers head
 
--- Why there is no such file: the programme cannot be mixed, or it can, and the file is too long.
+-- Why there is no such file: the programme cannot be mixed, or it can and the file is too long.
 abbrev pub IsMixRefusal : Session → List (List ℕ) → Format → HeadText → MixFault → Type 0
 IsMixRefusal session texts layout head fault =
     (fault ≢ mix.Memory)
@@ -49,16 +49,16 @@ IsMixRefusal session texts layout head fault =
     ⊎ (IsMixable (programme session texts layout) × (fault ≡ mix.TooLong)
         × (2 ^ 32 ≤ length (riff (programme session texts layout) session.markers head))))
 
--- `render`: what is made of a session and recordings, the file or why there is none
+-- `render`: the file of a session and recordings, or why there is none
 abbrev pub Renders : Format → HeadText → Session → List (List ℕ) → Result (List ℕ) CliFault → Type 0
 Renders layout head session texts (Ok bytes) = CanBounce session texts layout head
     × (bytes ≡ session_file session texts layout head)
 Renders layout head session texts (Err (Mix fault)) = IsMixRefusal session texts layout head fault
 Renders layout head session texts (Err _) = ⊥
 
--- ---- of the readers of logs, and of recordings after them
+-- ---- the readers of logs, and of recordings after them
 
--- what is lent to be read, before or after
+-- the readers that are lent, before or after the call
 pub record RenderInputs (R : Type 0) : Type 0 where
   pub logs : List (Latch R)
   pub sources : List (Latch R)
@@ -66,12 +66,12 @@ pub record RenderInputs (R : Type 0) : Type 0 where
 abbrev pub render_inputs : {R : Type 0} → List (Latch R) → List (Latch R) → RenderInputs R
 render_inputs logs sources = record { logs = logs; sources = sources }
 
--- what they gave: logs that agree, and wave files
+-- what the readers gave: logs that agree, and wave files
 pub record LogsAndWaves : Type 0 where
   pub logs : List LogMap
   pub texts : List (List ℕ)
 
--- `render`: what is made of these
+-- `render`: the result for these logs and recordings
 abbrev pub RendersLogs : Format → HeadText → LogsAndWaves → Result (List ℕ) CliFault → Type 0
 RendersLogs layout head given = Renders layout head (session_of_logs given.logs) given.texts
 
@@ -80,8 +80,8 @@ module _ {R : Type 0} (remaining : R → Option (List ℕ)) where
   GaveLogsAndWaves s given = GaveLogs remaining s.logs given.logs
       × (AllAgree given.logs × GaveWaves remaining s.sources given.texts)
 
-  -- The logs were not read, or do not go together, and no recording was asked for; or they were and
-  -- do, and a recording was not read, which is counted behind the logs.
+  -- Either the logs were not read or conflict, and no recording was read; or the logs were read and
+  -- agree, and a recording was not read. Its index is counted after the logs.
   abbrev pub RenderCause : RenderInputs R → RenderInputs R → CliFault → Type 0
   RenderCause before after fault =
       (UnionFails remaining before.logs after.logs fault × (after.sources ≡ before.sources))
@@ -90,12 +90,12 @@ module _ {R : Type 0} (remaining : R → Option (List ℕ)) where
           × (AllAgree logs × HasSourceCause remaining (length before.logs) 0 before.sources
           after.sources fault))))
 
-  -- all are at their ends
+  -- all readers are at their ends
   abbrev pub AreInputsRead : RenderInputs R → Type 0
   AreInputsRead s = AreRead remaining s.logs × AreRead remaining s.sources
 
-  -- Working words: the logs gave a union, of which this is the session, and of the wave files what
-  -- its audible clips play is kept.
+  -- Working definition: the logs gave a union, whose session this is, and of the wave files those
+  -- that its audible clips play are kept.
   abbrev pub GaveMaterial : {A : Type 0} → RenderInputs R → Material A → Type 0
   GaveMaterial s m =
       (all : LogMap) × (GaveUnion remaining s.logs all × ((m.session ≡ session_of (operations all))

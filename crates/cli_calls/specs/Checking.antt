@@ -1,5 +1,5 @@
--- What is told of a log and recordings before they are rendered: what sounds otherwise than one may
--- think, or why there would be no file.
+-- The result of checking a log and recordings before a render: the warnings about what may sound
+-- otherwise than expected, or why there would be no file.
 use Rattle.std.specs.Prelude.{◌≡◌, ℕ, List, [], ◌∷◌, Option, Result, Ok, Err, ◌⊎◌}
 use Rattle.base_io.specs.Latch.{Latch}
 use Rattle.mt_op.specs.OpValue.{Op}
@@ -19,12 +19,12 @@ use Rattle.cli_calls.specs.Bouncing.{programme, CanBounce, IsMixRefusal}
 use Rattle.cli_calls.specs.Reading.{GaveLog, IsRead, IsCause}
 use Rattle.cli_calls.specs.Sources.{GaveWaves, GaveKept, HasSourceCause}
 
--- the text on a session of operations over recordings, in a format, in a form of lines
+-- the warnings about a session of operations over recordings, in a format and in a form of lines
 abbrev pub warnings : TextOptions → Session → List Op → List (List ℕ) → Format → List ℕ
 warnings form session ops texts layout = in_form form
     (warnings_text (programme session texts layout) session.markers ops)
 
--- what is made of a session of operations and recordings: the text, where there would be a file, or
+-- the result for a session of operations and recordings: the warnings, if there would be a file, or
 -- why there would be none
 abbrev pub ChecksSession : TextOptions → Format → HeadText → Session → List Op → List (List ℕ)
     → Result (List ℕ) CliFault → Type 0
@@ -34,12 +34,12 @@ ChecksSession form layout head session ops texts (Err (Mix fault)) = IsMixRefusa
     layout head fault
 ChecksSession form layout head session ops texts (Err _) = ⊥
 
--- what readers gave: a log, and wave files
+-- what the readers gave: a log, and wave files
 pub record LogAndWaves : Type 0 where
   pub log : LogMap
   pub texts : List (List ℕ)
 
--- `check`: what is made of these
+-- `check`: the result for this log and these recordings
 abbrev pub Checks : TextOptions → Format → HeadText → LogAndWaves → Result (List ℕ) CliFault
     → Type 0
 Checks form layout head given = ChecksSession form layout head (session_of (operations given.log))
@@ -52,7 +52,7 @@ module _ {R : Type 0} (remaining : R → Option (List ℕ)) where
       × GaveWaves remaining files given.texts
   GaveLogAndWaves [] given = ⊥
 
-  -- the first gave no log, and no other was asked; or it did, and another gave no wave file
+  -- the first gave no log, and no other was read; or it did, and another gave no wave file
   abbrev pub LogAndWavesCause : List (Latch R) → List (Latch R) → CliFault → Type 0
   LogAndWavesCause (log ∷ files) (log' ∷ files') fault =
       (IsCause remaining 0 log log' fault × (files' ≡ files))
@@ -60,8 +60,8 @@ module _ {R : Type 0} (remaining : R → Option (List ℕ)) where
           × HasSourceCause remaining 1 0 files files' fault)))
   LogAndWavesCause _ _ fault = ⊥
 
-  -- Working words: the first gave a log, of which this is the session, and of the wave files of the
-  -- others what its audible clips play is kept.
+  -- Working definition: the first gave a log, whose session this is, and of the wave files of the
+  -- others those that its audible clips play are kept.
   abbrev pub GaveProgramme : {A : Type 0} → List (Latch R) → Programme A → Type 0
   GaveProgramme (log ∷ files) p = GaveLog remaining log p.log
       × ((p.session ≡ session_of (operations p.log)) × GaveKept remaining

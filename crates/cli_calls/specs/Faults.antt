@@ -1,4 +1,4 @@
--- The number of each refusal.
+-- The number of each fault.
 use Rattle.std.specs.Prelude.{ℕ}
 use Rattle.mt_stamp.specs.Faults.{number_of as stamp_number}
 use Rattle.mt_op.specs.Faults.{number_of as op_number}
@@ -26,14 +26,14 @@ use Rattle.cli_calls.specs.declared.fault.CliFault.TheVariants.{Mix, Lay, Write,
 use Rattle.cli_calls.specs.declared.fault.CliFault.TheVariants.{Digest, NoSuchItem, Head, Format as FormatFault}
 use Rattle.cli_calls.specs.declared.fault.CliFault.TheVariants.{Script, Message, Sync, Net}
 
--- A recording that is not laid is refused as a clip without a frame, a recording of another rate,
--- or a programme that is too long.
+-- The number for a recording that is not laid: that of a clip without a frame, of a recording of
+-- another rate, or of a programme that is too long.
 abbrev pub lay_number : LayFault → ℕ
 lay_number lay.ZeroLength = 6
 lay_number lay.RateDiffers = 34
 lay_number lay.TooLong = 35
 
--- of a refusal inside another the inner one's
+-- the number of a fault; for a fault that contains another, the number of the inner one
 abbrev pub number_of : CliFault → ℕ
 number_of Memory = 0
 number_of (Read index) = 45
@@ -55,14 +55,14 @@ number_of (Message fault) = message_number fault
 number_of (Sync fault) = sync_number fault
 number_of Net = 46
 
--- what a refusal of the file is told as
+-- the command's fault for a fault of writing the file
 abbrev pub file_fault : BounceFault → CliFault
 file_fault bounce.Memory = Memory
 file_fault bounce.TooLong = Mix mix.TooLong
 file_fault bounce.Write = Write
 
--- what a refusal of a script, of a message or of a conversation is told as: want of memory is one
--- refusal, wherever it comes
+-- the command's fault for a fault of a script, a message or a conversation: running out of memory
+-- is one fault, wherever it occurs
 abbrev pub script_fault : ScriptFault → CliFault
 script_fault script.Memory = Memory
 script_fault fault = Script fault

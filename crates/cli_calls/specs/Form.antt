@@ -1,11 +1,11 @@
--- The forms in which lines are told.
+-- The forms in which lines are printed.
 use Rattle.std.specs.Prelude.{ℕ, max, List, Option, Some, None}
 use Rattle.std.specs.declared.alloc.Global.{Global}
 use Rattle.text_json.specs.Json.{json_text}
 use Rattle.text_json.specs.Saying.{timed_text}
 use Rattle.cli_calls.specs.declared.form.TextOptions.{TextOptions}
 
--- positions and lengths as times, at so many frames a second; a rate of 0 counts as 1
+-- positions and lengths as times, at a rate in frames per second; a rate of 0 counts as 1
 abbrev pub with_times : Option ℕ → List ℕ → List ℕ
 with_times None text = text
 with_times (Some rate) text = timed_text (max rate 1) text

@@ -17,28 +17,29 @@ use Rattle.cli_calls.specs.Viewing.{view_text}
 use Rattle.cli_calls.specs.Listing.{list_text}
 use Rattle.cli_calls.specs.Bouncing.{session_of_logs, CanBounce, session_file, IsMixRefusal}
 
--- ---- the same operations, and the same recordings where they count
+-- ---- equal operations, and equal recordings under the digests that are played
 
 -- an operation is in one of the logs
 abbrev pub IsIn : List LogMap → Op → Type 0
 IsIn [] o = ⊥
 IsIn (log ∷ logs) o = Has log o ⊎ IsIn logs o
 
--- These logs, each the set of its operations, have together the operations that those have, however
--- they are spread and repeated.
+-- These logs and the others have the same operations, in any distribution and with repetitions.
+-- Each log is the set of its operations.
 pub record HaveSame (logs others : List LogMap) : Type 0 where
   pub sets : AllByRecursion IsSet logs
   pub other_sets : AllByRecursion IsSet others
   pub same : (o : Op) → IsIn logs o ↔ IsIn others o
 
--- Under the digest of each audible clip of a session the first of these recordings and the first of
--- those are the same bytes, or neither is there.
+-- Under the digest of each audible clip of a session, the first of these recordings and the first
+-- of the others are the same bytes, or neither exists.
 abbrev pub HearAlike : Session → List (List ℕ) → List (List ℕ) → Type 0
 HearAlike session texts others = FindAlike session.tracks (sources_of texts) (sources_of others)
 
--- ---- what is told of them
+-- ---- what is printed of them
 
--- The sessions are one, what `view` and `log` print of them, and the log that `merge` writes.
+-- The sessions are equal, and so are what `view` and `log` print of them and the log that `merge`
+-- writes.
 pub record TellAlike (logs others : List LogMap) : Type 0 where
   pub union : union_all logs ≡ union_all others
   pub session : session_of_logs logs ≡ session_of_logs others
@@ -46,8 +47,8 @@ pub record TellAlike (logs others : List LogMap) : Type 0 where
   pub list : list_text logs ≡ list_text others
   pub merged : text_of (union_all logs) ≡ text_of (union_all others)
 
--- The files of two sessions are one, and both are written or neither: then both are refused, for
--- the same and for nothing else.
+-- The files of two sessions are equal, and both are written or neither is; if neither is, both fail
+-- with the same fault and with no other.
 pub record RenderAlike (session other : Session) (texts others : List (List ℕ)) (layout : Format)
     (head : HeadText) : Type 0 where
   pub file : session_file session texts layout head ≡ session_file other others layout head
@@ -61,17 +62,17 @@ pub record RenderAlike (session other : Session) (texts others : List (List ℕ)
 
 -- ---- the headline
 
--- Logs with the same operations agree, or clash, on both sides.
+-- Logs with the same operations agree on both sides, or conflict on both.
 abbrev pub SameAgree : Type 0
 SameAgree = (logs others : List LogMap) → HaveSame logs others → AllAgree logs ↔ AllAgree others
 
--- Where they agree, the same is told of both.
+-- If they agree, the same is printed of both.
 abbrev pub SameIsTold : Type 0
 SameIsTold = (logs others : List LogMap) → HaveSame logs others → AllAgree logs
     → TellAlike logs others
 
--- And one file is written of both, over recordings that are the same where they count, in one
--- format and with one head.
+-- If they agree, both give one file, over recordings that are equal under the digests of audible
+-- clips, in one format and with one head.
 abbrev pub SameIsRendered : Type 0
 SameIsRendered =
     (logs others : List LogMap) (texts other_texts : List (List ℕ)) (layout : Format)
@@ -85,12 +86,12 @@ SameIsShown =
     (a b : Editor) (log other : LogMap) → a.log ≡ Some log → b.log ≡ Some other
         → HaveSame (log ∷ []) (other ∷ []) → session_in a ≡ session_in b
 
--- One log agrees with itself alone, and is its own union: so what is told of it is told of an
+-- A single log agrees with itself, and is its own union: so what is printed of it is printed of an
 -- editor that has it.
 abbrev pub OneIsItsUnion : Type 0
 OneIsItsUnion = (log : LogMap) → AllAgree (log ∷ []) × (union_all (log ∷ []) ≡ log)
 
--- What is merged of logs that agree has the operations of all of them, and can stand for them.
+-- The merge of logs that agree has the operations of all of them, and can replace them.
 abbrev pub MergedIsSame : Type 0
 MergedIsSame = (logs : List LogMap) → AllByRecursion IsSet logs → AllAgree logs
     → HaveSame logs (union_all logs ∷ [])

@@ -1,4 +1,4 @@
--- What a wave file says of itself, as text (profile).
+-- The description of a wave file as text (profile).
 use Rattle.std.specs.Prelude.{◌≡◌, ℕ, Bool, ◌==◌, ◌&&◌, not, nat_le, if◌then◌else◌, List, [], ◌∷◌}
 use Rattle.std.specs.Prelude.{◌++◌, codes, Option, Some, None, Result, Ok, Err}
 use Rattle.std.specs.Fmt.{decimal}
@@ -20,7 +20,7 @@ use Rattle.cli_calls.specs.declared.file_info.InfoUnit.{InfoUnit}
 use Rattle.cli_calls.specs.declared.file_info.InfoUnit.TheVariants.{Frames, OwnRate, Rate}
 use Rattle.cli_calls.specs.Form.{in_form}
 
--- A byte of a file's text: a printing character of ASCII stands for itself, but the backslash.
+-- A byte of a file's text: a printing character of ASCII except the backslash appears unchanged.
 -- Every other byte is `\x` and its two hex digits in lower case.
 abbrev pub is_plain : ℕ → Bool
 is_plain byte = nat_le 32 byte && nat_le byte 126 && not (byte == 92)
@@ -48,12 +48,12 @@ extension_lines (Some e) =
     ++ (line (codes "time-reference") (decimal e.time_reference)
     ++ line (codes "history") (shown e.history)))))))
 
--- the length of a cue in frames, where it has one
+-- the length of a cue in frames, if it has one
 abbrev pub length_text : Option ℕ → List ℕ
 length_text None = []
 length_text (Some frames) = codes " len " ++ decimal frames
 
--- the end of a cue's line: its label, where it has one
+-- the end of a cue's line: its label, if it has one
 abbrev pub label_text : Option (List ℕ) → List ℕ
 label_text None = []
 label_text (Some text) = codes " label " ++ shown text
@@ -63,7 +63,7 @@ abbrev pub cue_line : CueText → List ℕ
 cue_line c = codes "cue " ++ (decimal c.name ++ (codes " at "
     ++ (decimal c.at ++ (length_text c.length ++ (label_text c.label ++ (newline ∷ []))))))
 
--- the lines of the sound: frames a second, channels, bits of a sample, and frames
+-- the lines of the sound: frames per second, channels, bits per sample, and frames
 abbrev pub sound_lines : List ℕ → ℕ → List ℕ
 sound_lines bytes frames =
     line (codes "rate") (decimal (rate_of bytes))
@@ -71,8 +71,8 @@ sound_lines bytes frames =
     ++ (line (codes "bits") (decimal (bits_of bytes))
     ++ line (codes "frames") (decimal frames)))
 
--- what is read off the bytes of a wave file, with these digits of its digest and so many frames:
--- the sound, the broadcast extension, and the cues in order
+-- the description of a wave file with these digits of its digest and this many frames: the sound,
+-- the broadcast extension, and the cues in order
 abbrev pub told_text : List ℕ → List ℕ → ℕ → List ℕ
 told_text digits bytes frames =
     line (codes "digest") digits
@@ -80,11 +80,11 @@ told_text digits bytes frames =
     ++ (extension_lines (bext_of bytes)
     ++ flat_map cue_line (cues_of bytes)))
 
--- the text of a wave file: its SHA-256 first
+-- the description of a wave file, its SHA-256 first
 abbrev pub info_text : List ℕ → List ℕ
 info_text bytes = told_text (encode_lower (sha256 bytes)) bytes (frames_of bytes)
 
--- what is made of bytes: their text, or, where they are no wave file, the first of its faults
+-- the result for bytes: their description, or, if they are not a wave file, their first fault
 abbrev pub Informs : List ℕ → Result (List ℕ) CliFault → Type 0
 Informs bytes (Ok text) = IsWave bytes × (text ≡ info_text bytes)
 Informs bytes (Err (Source place fault)) = (place ≡ 0) × (fault_of bytes ≡ Some fault)
@@ -92,26 +92,27 @@ Informs bytes (Err _) = ⊥
 
 -- ---- in a form of lines
 
--- at how many frames a second times are printed of these bytes, if they are
+-- the frames per second for printed times of these bytes; none if positions and lengths are printed
+-- in frames
 abbrev pub rate_in : InfoUnit → List ℕ → Option ℕ
 rate_in Frames bytes = None
 rate_in OwnRate bytes = Some (rate_of bytes)
 rate_in (Rate rate) bytes = Some rate
 
--- the form of the lines of a file
+-- the form of the lines about a file
 abbrev pub lines_of : InfoForm → List ℕ → TextOptions
 lines_of form bytes = record { rate = rate_in form.unit bytes; json = form.json }
 
--- the same in lines of a form
+-- the result for bytes, in a form of lines
 abbrev pub InformsIn : TextOptions → List ℕ → Result (List ℕ) CliFault → Type 0
 InformsIn lines bytes (Ok text) = IsWave bytes × (text ≡ in_form lines (info_text bytes))
 InformsIn lines bytes (Err fault) = Informs bytes (Err fault)
 
--- `info`: what is made of a file
+-- `info`: the result for a file
 abbrev pub InformsBy : InfoForm → List ℕ → Result (List ℕ) CliFault → Type 0
 InformsBy form bytes = InformsIn (lines_of form bytes) bytes
 
--- ---- by an outline, of whichever file it is
+-- ---- by an outline, for every file that has it
 
 abbrev pub WaveHeaderInforms : {A : Type 0} → WaveHeader A → Result (List ℕ) CliFault → Type 0
 WaveHeaderInforms o made = (bytes : List ℕ) → IsWaveHeader bytes o → Informs bytes made
@@ -126,7 +127,7 @@ abbrev pub WaveHeaderInformsBy : {A : Type 0} → InfoForm → WaveHeader A → 
 WaveHeaderInformsBy form o made = (bytes : List ℕ) → IsWaveHeader bytes o
     → InformsBy form bytes made
 
--- one reader gave the file of this outline
+-- the one reader gave the file of this outline
 abbrev pub GaveWaveHeader : {R A : Type 0} → (R → Option (List ℕ)) → List (Latch R) → WaveHeader A
     → Type 0
 GaveWaveHeader remaining (input ∷ []) o = Gives (remaining input.inner) o

@@ -1,4 +1,4 @@
--- Why joining logs is refused.
+-- Why joining logs fails.
 use Rattle.std.specs.Prelude.{◌≡◌, ℕ, List, Option, ◌⊎◌}
 use Rattle.base_io.specs.Latch.{Latch}
 use Rattle.mt_opcodec.specs.LogValue.{LogMap}
@@ -7,7 +7,8 @@ use Rattle.cli_calls.specs.declared.fault.CliFault.{CliFault}
 use Rattle.cli_calls.specs.declared.fault.CliFault.TheVariants.{Memory, Merge}
 use Rattle.cli_calls.specs.Reading.{GaveLogs, AreRead, HasCause}
 
--- memory, or the first dot at which a log clashes with the union of those before it
+-- memory ran out, or this is the first dot at which a log conflicts with the union of those before
+-- it
 abbrev pub AllFail : List LogMap → CliFault → Type 0
 AllFail logs Memory = Unit {0}
 AllFail logs (Merge dot) = FirstConflict logs dot
@@ -18,15 +19,15 @@ abbrev pub GaveUnion : {R : Type 0} → (R → Option (List ℕ)) → List (Latc
 GaveUnion remaining before all = (logs : List LogMap)
     × (GaveLogs remaining before logs × AllAgree logs × (all ≡ union_all logs))
 
--- of inputs: the first that gave no log, or all gave logs and are at their ends, and joining these
--- is refused
+-- why inputs gave no union: an input gave no log, or all gave logs and are at their ends, and
+-- joining these logs failed
 abbrev pub UnionFails : {R : Type 0} → (R → Option (List ℕ)) → List (Latch R) → List (Latch R)
     → CliFault → Type 0
 UnionFails remaining before after fault =
     HasCause remaining 0 before after fault ⊎ ((logs : List LogMap)
         × (GaveLogs remaining before logs × (AreRead remaining after × AllFail logs fault)))
 
--- of two logs
+-- why joining two logs fails
 abbrev pub JoinFails : LogMap → LogMap → CliFault → Type 0
 JoinFails all log Memory = Unit {0}
 JoinFails all log (Merge dot) = IsFirstConflict all log dot

@@ -1,4 +1,4 @@
--- The lines of a script that lay recordings on a track, one behind another (profile).
+-- The lines of a script that lay recordings on a track, one after another (profile).
 use Rattle.std.specs.Prelude.{◌≡◌, ℕ, ◌+◌, ◌^◌, ◌==◌, nat_le, not, List, [], ◌∷◌, ◌++◌, codes}
 use Rattle.std.specs.Prelude.{Option, Some, None, Result, Ok, Err, if◌then◌else◌, Vec}
 use Rattle.sha2.specs.Sha256.{sha256}
@@ -19,7 +19,7 @@ use Rattle.cli_calls.specs.declared.lay.Sound.{Sound}
 use Rattle.cli_calls.specs.Reading.{GaveEach, FirstCause, IsRead}
 use Rattle.cli_calls.specs.Sources.{GaveWave, IsSourceCause}
 
--- what a clip of a whole recording names
+-- the digest, rate and length of a recording, for a clip of all of it
 abbrev pub sound_of : List ℕ → Sound
 sound_of bytes = record { digest = record { 0 = sha256 bytes }; rate = rate_of bytes; frames =
     frames_of bytes }
@@ -32,12 +32,13 @@ clip_words track at s = codes "add-clip" ++ (word (digest_text s.digest)
 abbrev pub clip_line : List ℕ → ℕ → Sound → List ℕ
 clip_line track at s = clip_words track at s ++ newline ∷ []
 
--- On a track that a stamp names these are the words of a log for an operation that adds this clip.
+-- On the track of a stamp these are the words that `log` prints for an operation that adds this
+-- clip.
 abbrev pub LaidIsTold : Type 0
 LaidIsTold = (track : Stamp) (at : ℕ) (s : Sound) → clip_words (stamp_text track) at s
     ≡ act_text (AddClip s.digest track at 0 s.frames)
 
--- why a recording is not laid at a position, if it is not
+-- the fault of laying a recording at a position, if there is one
 unfoldable pub lay_fault : Laying → ℕ → Sound → Option LayFault
 lay_fault l at s =
     if s.frames == 0 then Some ZeroLength
@@ -45,20 +46,19 @@ lay_fault l at s =
     else if nat_le (2 ^ 32) at then Some TooLong
     else None
 
--- a text before what is made
+-- a text, followed by the text of a result
 abbrev pub behind : List ℕ → Result (List ℕ) CliFault → Result (List ℕ) CliFault
 behind text (Ok more) = Ok (text ++ more)
 behind text (Err fault) = Err fault
 
--- the line of the recording of this index before others, where there is no fault of it
+-- the line of the recording at this index before the lines of others, if the recording has no fault
 abbrev pub unless_at_fault : ℕ → Option LayFault → List ℕ → Result (List ℕ) CliFault
     → Result (List ℕ) CliFault
 unless_at_fault index (Some fault) line rest = Err (Lay index fault)
 unless_at_fault index None line rest = behind line rest
 
--- The lines of the recordings from an index on: the first of them stands at this position, and each
--- other where the one before it ends and the gap is over. Or why the first one that is not laid is
--- not.
+-- The lines of the recordings from an index on, or the first fault. The first of these recordings
+-- is at this position, and each other one after the end of the one before it and the gap.
 abbrev pub laid_from : Laying → ℕ → ℕ → List Sound → Result (List ℕ) CliFault
 laid_from l index at [] = Ok []
 laid_from l index at (s ∷ sounds) =
@@ -68,21 +68,21 @@ laid_from l index at (s ∷ sounds) =
 abbrev pub laid : Laying → List Sound → Result (List ℕ) CliFault
 laid l sounds = laid_from l 0 l.at sounds
 
--- `lay`: what is made of these recordings
+-- `lay`: the result for these recordings
 abbrev pub LaysOut : Laying → List Sound → Result (List ℕ) CliFault → Type 0
 LaysOut l sounds made = made ≡ laid l sounds
 
 abbrev pub Lays : {Z : Type 0} → Laying → Vec Sound Z → Result (List ℕ) CliFault → Type 0
 Lays l sounds = LaysOut l sounds.items
 
--- why no text is made of them
+-- why these recordings are not laid
 abbrev pub NotLaid : Laying → List Sound → CliFault → Type 0
 NotLaid l sounds Memory = Unit {0}
 NotLaid l sounds (Lay index fault) = laid l sounds ≡ Err (Lay index fault)
 NotLaid l sounds _ = ⊥
 
 module _ {R : Type 0} (remaining : R → Option (List ℕ)) where
-  -- the reader gave a wave file, which is this recording
+  -- the reader gave a wave file, and this is its recording
   abbrev pub GaveSound : Latch R → Sound → Type 0
   GaveSound latch s = (bytes : List ℕ) × (GaveWave remaining latch bytes × (s ≡ sound_of bytes))
 
@@ -90,6 +90,6 @@ module _ {R : Type 0} (remaining : R → Option (List ℕ)) where
   abbrev pub GaveSounds : {Z : Type 0} → List (Latch R) → Vec Sound Z → Type 0
   GaveSounds latches sounds = GaveEach GaveSound latches sounds.items
 
-  -- why the first reader that gave no wave file gave none
+  -- why the first reader without a wave file gave none
   abbrev pub HasWaveCause : List (Latch R) → List (Latch R) → CliFault → Type 0
   HasWaveCause = FirstCause (IsRead remaining) GaveSound (IsSourceCause remaining 0) 0

@@ -1,4 +1,4 @@
--- What a listing prints.
+-- The text that `log` prints.
 use Rattle.std.specs.Prelude.{ℕ, List}
 use Rattle.mt_opcodec.specs.LogValue.{LogMap, operations}
 use Rattle.mt_opcodec.specs.Union.{union_all}
@@ -10,7 +10,7 @@ use Rattle.cli_calls.specs.declared.form.TextOptions.{TextOptions}
 abbrev pub log_list : LogMap → List ℕ
 log_list log = log_listing (operations log)
 
--- the same in a form
+-- the text of a log's operations in a form
 abbrev pub list_in : TextOptions → LogMap → List ℕ
 list_in form log = in_form form (log_list log)
 

@@ -1,5 +1,4 @@
--- What `pull` writes and tells of a log and of those that it takes operations from, and why it is
--- refused.
+-- What `pull` writes and prints for a log and the logs whose operations it takes, and why it fails.
 use Rattle.std.specs.Prelude.{◌≡◌, ◌-◌, ℕ, List, [], ◌∷◌, ◌++◌, drop, codes, Option, Result, Ok}
 use Rattle.std.specs.Prelude.{Err, Vec}
 use Rattle.std.specs.List.{flat_map, zip}
@@ -15,11 +14,12 @@ use Rattle.cli_calls.specs.declared.pull.PullCounts.{PullCounts}
 use Rattle.cli_calls.specs.Reading.{text_of, GaveLogs}
 use Rattle.cli_calls.specs.Editing.{ops_line}
 
--- how many operations a log adds to others
+-- the number of operations that a log adds to others
 abbrev pub added : LogMap → LogMap → ℕ
 added all log = fin.len (union all log) - fin.len all
 
--- a log's share: what is new of it to the logs before it, and the rest, which these have too
+-- the counts of a log: of its operations that the logs before it lack, and of the rest, which these
+-- have too
 abbrev pub share : LogMap → LogMap → PullCounts
 share all log = record { new = added all log; shared = fin.len log - added all log }
 
@@ -35,12 +35,12 @@ abbrev pub share_line : List ℕ × PullCounts → List ℕ
 share_line named = codes "from " ++ (named.0 ++ (codes " new "
     ++ (decimal named.1.new ++ (codes " shared " ++ (decimal named.1.shared ++ newline ∷ [])))))
 
--- a line for each under its name, in their order
+-- the lines of counts and their names, in order
 abbrev pub share_lines : List (List ℕ) → List PullCounts → List ℕ
 share_lines names parts = flat_map share_line (zip names parts)
 
--- What is told: of each log behind the first its share, under its name; and how many operations
--- there are in all.
+-- The printed text: the line of each log after the first, with its name, and the number of
+-- operations in the union.
 abbrev pub told_text : List (List ℕ) → List PullCounts → ℕ → List ℕ
 told_text names parts count = share_lines names (drop 1 parts) ++ ops_line count
 
@@ -48,7 +48,7 @@ abbrev pub pull_text : List (List ℕ) → List LogMap → List ℕ
 pull_text names logs = told_text names (shares logs) (fin.len (union_all logs))
 
 -- `pull`: the union of logs that agree, and what each adds to it; or the first dot at which they
--- clash
+-- conflict
 abbrev pub PullMakes : List (List ℕ) → List LogMap → Result (List ℕ × List ℕ) CliFault → Type 0
 PullMakes names logs (Ok made) = AllAgree logs × ((made.0 ≡ text_of (union_all logs))
     × (made.1 ≡ pull_text names logs))

@@ -1,4 +1,4 @@
--- Reading recordings from readers, and why one is refused.
+-- Reading recordings from readers, and why one is not read.
 use Rattle.std.specs.Prelude.{◌≡◌, ℕ, Bool, true, List, ◌+◌, Option, Some, map, Vec}
 use Rattle.base_io.specs.Latch.{Latch}
 use Rattle.mt_op.specs.declared.digest.Digest.{Digest}
@@ -12,7 +12,7 @@ use Rattle.cli_calls.specs.Reading.{Gave, IsRead, IsRest, GaveEach, FirstCause}
 abbrev pub bytes_in : {Z : Type 0} → List (Vec ℕ Z) → List (List ℕ)
 bytes_in texts = map (λ t. t.items) texts
 
--- What is kept of recordings has what these have under each digest that is wanted: the same bytes,
+-- Under each wanted digest the kept recordings have what all these recordings have: the same bytes,
 -- or neither has any.
 abbrev pub HoldWanted : (Digest → Bool) → List (List ℕ) → List (List ℕ) → Type 0
 HoldWanted wanted kept texts = (d : Digest) → wanted d ≡ true → found (sources_of kept) d
@@ -27,14 +27,14 @@ module _ {R : Type 0} (remaining : R → Option (List ℕ)) where
   abbrev pub GaveWaves : List (Latch R) → List (List ℕ) → Type 0
   GaveWaves = GaveEach GaveWave
 
-  -- each reader gave a wave file, and of these it is kept what is wanted
+  -- each reader gave a wave file, and the wanted ones are kept
   abbrev pub GaveKept : (Digest → Bool) → List (Latch R) → List (List ℕ) → Type 0
   GaveKept wanted latches kept = (texts : List (List ℕ))
       × (GaveWaves latches texts × HoldWanted wanted kept texts)
 
-  -- Why the reader of an index gave no wave file: the latch has failed, or its bytes are none, by
-  -- the first of their faults. As a reader it is counted behind so many others, and as a recording
-  -- it is not.
+  -- Why the reader at an index gave no wave file: its latch has failed, or its bytes are not a wave
+  -- file, with their first fault. As a reader its index is counted after the other inputs, as a
+  -- recording it is not.
   abbrev pub IsSourceCause : ℕ → ℕ → Latch R → Latch R → CliFault → Type 0
   IsSourceCause others index old new Memory = IsRest remaining old new
   IsSourceCause others index old new (Read place) = (place ≡ others + index) × (new.failed ≡ true)
@@ -44,6 +44,6 @@ module _ {R : Type 0} (remaining : R → Option (List ℕ)) where
       × (fault_of bytes ≡ Some fault))))
   IsSourceCause others index old new _ = ⊥
 
-  -- the same of the readers from an index on
+  -- why the first reader without a wave file, from an index on, gave none
   abbrev pub HasSourceCause : ℕ → ℕ → List (Latch R) → List (Latch R) → CliFault → Type 0
   HasSourceCause others = FirstCause (IsRead remaining) GaveWave (IsSourceCause others)

@@ -1,4 +1,4 @@
--- What a view prints.
+-- The text that `view` prints.
 use Rattle.std.specs.Prelude.{ℕ, List}
 use Rattle.mt_opcodec.specs.LogValue.{LogMap, operations}
 use Rattle.mt_opcodec.specs.Union.{union_all}
@@ -11,7 +11,7 @@ use Rattle.cli_calls.specs.declared.form.TextOptions.{TextOptions}
 abbrev pub log_view : LogMap → List ℕ
 log_view log = session_text (session_of (operations log))
 
--- the same in a form
+-- the text of a log's session in a form
 abbrev pub view_in : TextOptions → LogMap → List ℕ
 view_in form log = in_form form (log_view log)
 

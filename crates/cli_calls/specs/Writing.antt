@@ -1,15 +1,15 @@
--- Writing what a command makes: bytes, or a refusal.
+-- Writing the result of a command: bytes, or a fault.
 use Rattle.std.specs.Prelude.{◌≡◌, ℕ, true, false, List, Option, Result, Ok, Err, OnOk, IfErr}
 use Rattle.std.specs.Io.KnownBytes.{Appends}
 use Rattle.base_io.specs.Latch.{Latch, AppendsPrefix}
 use Rattle.cli_calls.specs.declared.fault.CliFault.{CliFault}
 use Rattle.cli_calls.specs.declared.fault.CliFault.TheVariants.{Memory, Write, Print}
 
--- These bytes are made, and no refusal.
+-- The result is these bytes, and no fault.
 abbrev pub Exactly : List ℕ → Result (List ℕ) CliFault → Type 0
 Exactly bytes made = made ≡ Ok bytes
 
--- Of a value this text is made, and no refusal.
+-- The result for a value is this text, and no fault.
 abbrev pub Prints : {X : Type 0} → (X → List ℕ) → X → Result (List ℕ) CliFault → Type 0
 Prints text x made = Exactly (text x) made
 
@@ -24,39 +24,41 @@ module _ {W : Type 0} (contents : W → Option (List ℕ)) where
   HasFailed bytes old new = (new.failed ≡ true) × AppendsPrefix (contents old.inner)
       (contents new.inner) bytes
 
-  -- What is made is bytes, and they were written.
+  -- The result is bytes, and they were written.
   abbrev pub MadeWritten : (Result (List ℕ) CliFault → Type 0) → Latch W → Latch W → Type 0
   MadeWritten Makes old new = (bytes : List ℕ) × (Makes (Ok bytes) × HasWritten bytes old new)
 
-  -- What is made is a refusal, or memory ran out, each with the output as it was; or it is bytes,
-  -- and the output has failed.
+  -- The result is a fault, or memory ran out, each with the output unchanged; or the result is
+  -- bytes, and the output has failed.
   abbrev pub MadeFails : (Result (List ℕ) CliFault → Type 0) → Latch W → Latch W → CliFault → Type 0
   MadeFails Makes old new Memory = new ≡ old
   MadeFails Makes old new Write = (bytes : List ℕ) × (Makes (Ok bytes) × HasFailed bytes old new)
   MadeFails Makes old new fault = Makes (Err fault) × (new ≡ old)
 
--- What is made was written, or why it was not.
+-- The result was written, or why it was not.
 pub record Wrote {W : Type 0} (contents : W → Option (List ℕ))
     (Makes : Result (List ℕ) CliFault → Type 0) (old new : Latch W)
     (result : Result (Unit {0}) CliFault) : Type 0 where
-  -- The bytes that are made were written, and nothing else.
+  -- The bytes of the result were written, and nothing else.
   pub written : OnOk result (MadeWritten contents Makes old new)
-  -- Memory ran out, or what is made is this refusal, each with the output as it was; or the output
-  -- has failed, and holds a prefix of the bytes.
+  -- Memory ran out, or the result is this fault, each with the output unchanged; or the output has
+  -- failed, and holds a prefix of the bytes.
   pub refused : IfErr result (MadeFails contents Makes old new)
-  -- An output that had failed stays as it was.
+  -- An output that had failed is unchanged.
   pub stays : old.failed ≡ true → new ≡ old
 
--- ---- a text beside the bytes, on a second output
+-- ---- a text printed as well as the bytes, on a second output
 
--- why nothing is made: memory ran out, or what is made is this refusal, which is of neither output
+-- why nothing is made: memory ran out, or the result is this fault, which is not one of either
+-- output
 abbrev pub Refuses : {X : Type 0} → (Result X CliFault → Type 0) → CliFault → Type 0
 Refuses Makes Memory = Unit {0}
 Refuses Makes Write = ⊥
 Refuses Makes Print = ⊥
 Refuses Makes fault = Makes (Err fault)
 
--- what is lent to be written, before or after: the output, and that on which a text is printed
+-- the outputs that are lent, before or after the call: that for bytes, and that on which a text is
+-- printed
 pub record Outputs (W T : Type 0) : Type 0 where
   pub output : Latch W
   pub printed : Latch T
@@ -65,7 +67,7 @@ abbrev pub outputs : {W T : Type 0} → Latch W → Latch T → Outputs W T
 outputs output printed = record { output = output; printed = printed }
 
 module _ {W T : Type 0} (contents : W → Option (List ℕ)) (prints : T → Option (List ℕ)) where
-  -- What is made is bytes and a text, and both were written.
+  -- The result is bytes and a text, and both were written.
   abbrev pub BothWritten : (Result (List ℕ × List ℕ) CliFault → Type 0) → Outputs W T → Outputs W T
       → Type 0
   BothWritten Makes old new =
@@ -73,8 +75,9 @@ module _ {W T : Type 0} (contents : W → Option (List ℕ)) (prints : T → Opt
           × (HasWritten contents bytes old.output new.output
           × HasWritten prints text old.printed new.printed)))
 
-  -- What is made is a refusal, or memory ran out, each with both as they were; or the output has
-  -- failed, and nothing was printed; or the bytes were written, and the other has failed.
+  -- The result is a fault, or memory ran out, each with both outputs unchanged; or the first output
+  -- has failed, and nothing was printed; or the bytes were written, and the second output has
+  -- failed.
   abbrev pub BothFail : (Result (List ℕ × List ℕ) CliFault → Type 0) → Outputs W T → Outputs W T
       → CliFault → Type 0
   BothFail Makes old new Memory = new ≡ old
@@ -87,15 +90,15 @@ module _ {W T : Type 0} (contents : W → Option (List ℕ)) (prints : T → Opt
           × HasFailed prints text old.printed new.printed)))
   BothFail Makes old new fault = Makes (Err fault) × (new ≡ old)
 
--- What is made was written and printed, or why it was not.
+-- The result was written and printed, or why it was not.
 pub record WroteBoth {W T : Type 0} (contents : W → Option (List ℕ)) (prints : T → Option (List ℕ))
     (Makes : Result (List ℕ × List ℕ) CliFault → Type 0) (old new : Outputs W T)
     (result : Result (Unit {0}) CliFault) : Type 0 where
-  -- The bytes that are made were written, then the text was printed, and nothing else.
+  -- The bytes were written, then the text was printed, and nothing else.
   pub written : OnOk result (BothWritten contents prints Makes old new)
-  -- Neither output was touched; or the first has failed, and nothing was printed; or the second
-  -- has, behind bytes that were written.
+  -- Neither output was touched; or the first has failed, and nothing was printed; or the second has
+  -- failed, after the bytes were written.
   pub refused : IfErr result (BothFail contents prints Makes old new)
-  -- An output that had failed stays as it was.
+  -- An output that had failed is unchanged.
   pub output_stays : old.output.failed ≡ true → new.output ≡ old.output
   pub printed_stays : old.printed.failed ≡ true → new.printed ≡ old.printed

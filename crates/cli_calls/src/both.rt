@@ -1,4 +1,4 @@
-//! A log, and other bytes after it.
+//! Inputs that give a log, and other bytes after it.
 
 ghost use Rattle.std.specs.Prelude.{◌≡◌, true, IfOk, IfErr, OnOk, Some};
 ghost use Rattle.mt_opcodec.specs.LogValue.{LogMap};
@@ -51,10 +51,10 @@ impl<A: Allocator + Clone> Input<A> for LogThenBytes {
     }
 }
 
-/// Reads the log of an input, to let it grow.
+/// Reads the log of an input into a `LogBuilder`, which takes further operations.
 ///
-/// Errors: `Read` (45) where the input's latch has failed; `Log` (11 to 16, 52) where its bytes are
-/// no log, each with index 0; `Memory` (0) where an allocation failed. The input is read to its
+/// Errors: `Read` (45) if the input's latch has failed, or `Log` (11 to 16, 52) if its bytes are
+/// not a log, each with index 0; `Memory` (0) if an allocation failed. The input is read to its
 /// end, unless its latch has failed or memory ran out.
 pub fn read_growing<A: Allocator + Clone, R: Read>(
     alloc: A,

@@ -1,4 +1,4 @@
-//! Telling what a render would come to.
+//! Checking a session before it is rendered.
 
 ghost use Rattle.std.specs.Prelude.{◌≡◌, ◌≤◌, length};
 ghost use Rattle.mt_opcodec.specs.LogValue.{operations};
@@ -30,7 +30,7 @@ pub(crate) struct Programme<A: Allocator> {
     kept: Vec<HashedFile<A>, A>,
 }
 
-// A log, and then recordings, of which those that are audible are kept.
+// A log, and then recordings, of which only the audible ones are kept.
 struct LogThenRecordings;
 
 impl<A: Allocator + Clone> Input<A> for LogThenRecordings {
@@ -68,7 +68,7 @@ impl<A: Allocator + Clone> Input<A> for LogThenRecordings {
     }
 }
 
-// Checks a session over these recordings.
+// Writes the warnings about a session rendered from these recordings.
 fn check_session<A: Allocator + Clone, W: Write>(
     alloc: A,
     form: TextOptions,
@@ -94,7 +94,7 @@ fn check_session<A: Allocator + Clone, W: Write>(
     put_in_form(alloc, form, text.as_bytes(), output)
 }
 
-// What sounds otherwise than one may think.
+// Writes the warnings about a programme, in a form of lines.
 #[derive(Drop)]
 struct Check<'h, 't> {
     form: TextOptions,
@@ -127,15 +127,15 @@ impl<A: Allocator + Clone> Command<A, Programme<A>> for Check<'_, '_> {
     }
 }
 
-/// Writes what sounds otherwise than one may think where the session of the log of the first input
-/// is rendered from the recordings of the others, in a format and with a head: the text of
-/// text_check's `warnings_text` in a form of lines. Nothing is mixed.
+/// Writes what may sound otherwise than expected when the session of the first input's log is
+/// rendered from the recordings of the other inputs, in a format and with a head. The text is that
+/// of text_check's `warnings_text`, in a form of lines. Nothing is mixed.
 ///
-/// Errors as `bounce_logs` of this log: `Read` (45) with the index of an input whose latch has
+/// Errors as for `bounce_logs` of this log: `Read` (45) with the index of an input whose latch has
 /// failed, `Log` (11 to 16, 52) with index 0, `Source` (26 to 32) with the index of a recording
-/// that is no wave file, counted from 0, `Mix` where the programme cannot be mixed or its file
-/// would be too long (33 to 35); `Write` (37) where the output's latch has failed, which then holds
-/// a prefix of the text; `Memory` (0).
+/// that is not a wave file, counted from 0, `Mix` if the programme cannot be mixed or its file
+/// would be too long (33 to 35); `Write` (37) if the output's latch has failed (the output then
+/// holds a prefix of the text); `Memory` (0).
 pub fn check_log<A: Allocator + Clone, R: Read, W: Write>(
     alloc: A,
     form: TextOptions,

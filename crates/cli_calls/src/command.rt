@@ -1,4 +1,5 @@
-//! What all commands are: inputs that give a value, and bytes that are made of it and written.
+//! What all commands have in common: inputs that give a value, and bytes that are made from it and
+//! written.
 
 ghost use Rattle.std.specs.Prelude.{◌≡◌, ℕ, List, Option, Result, Ok, Err, IfOk, IfErr, OnOk};
 ghost use Rattle.std.specs.String.{string_bytes};
@@ -13,9 +14,9 @@ use base_io::Latch;
 use std::alloc::Allocator;
 use std::io::{Read, Write};
 
-/// What a command reads: how many readers that takes, and what they give.
+/// The inputs of a command: the number of readers, and the value that they give.
 pub(crate) trait Input<A: Allocator> {
-    /// What the readers give.
+    /// The value that the readers give.
     type Value;
 
     ghost fits: { Self → (R : Type 0) → List (LatchValue R) → Type 0 };
@@ -27,7 +28,7 @@ pub(crate) trait Input<A: Allocator> {
         → List (LatchValue R)
         → Fault → Type 0 };
 
-    /// Reads them, from left to right.
+    /// Reads the inputs, from left to right.
     fn read_from<R: Read>(
         &self,
         alloc: &A,
@@ -39,11 +40,12 @@ pub(crate) trait Input<A: Allocator> {
         ensures err { IfErr result (cause self.now R R.remaining inputs.old inputs.new) };
 }
 
-/// What a command makes of a value, and writes.
+/// The output of a command: the bytes that it makes from a value.
 pub(crate) trait Command<A: Allocator, V> {
     ghost makes: { Self → V → Result (List ℕ) Fault → Type 0 };
 
-    /// Writes the bytes that are made of a value, which may be let go before, and nothing else.
+    /// Writes the bytes that are made from a value, and nothing else. The value may be dropped
+    /// before they are written.
     fn write_value<W: Write>(
         &self,
         alloc: A,
@@ -53,7 +55,7 @@ pub(crate) trait Command<A: Allocator, V> {
         ensures { Wrote W.contents (makes self.now value) output.old output.new result };
 }
 
-/// Reads the inputs, and writes what the command makes of what they gave.
+/// Reads the inputs, and writes what the command makes from the value that they give.
 pub(crate) fn run<A: Allocator, I: Input<A>, C: Command<A, I::Value>, R: Read, W: Write>(
     from: &I,
     command: &C,
@@ -73,25 +75,25 @@ where
     }
 }
 
-/// The bytes of a file, and a text that is printed beside it.
+/// The bytes of a file, and a text that is printed as well.
 #[derive(Drop)]
 pub(crate) struct Made<A: Allocator> {
     pub(crate) bytes: Vec<u8, A>,
     pub(crate) text: String<A>,
 }
 
-/// What a command makes of a value, and prints beside it.
+/// A command that makes bytes and a text to print from a value.
 pub(crate) trait Printing<A: Allocator, V> {
     ghost makes: { Self → V → Result (List ℕ × List ℕ) Fault → Type 0 };
 
-    /// Makes the bytes and the text.
+    /// Makes the bytes and the text from a value.
     fn make(&self, alloc: A, value: V) -> Result<Made<A>, CliFault>
         ensures ok { IfOk result (λ made. makes self.now value
             (Ok (made.bytes.items, string_bytes made.text))) }
         ensures err { IfErr result (Refuses (makes self.now value)) };
 }
 
-/// Writes bytes, and then prints a text.
+/// Writes the bytes, and then prints the text.
 fn put_made<A: Allocator, W: Write, T: Write>(
     made: &Made<A>,
     output: &mut Latch<W>,
@@ -110,7 +112,7 @@ fn put_made<A: Allocator, W: Write, T: Write>(
     }
 }
 
-/// Reads the inputs, writes the bytes that the command makes of what they gave, and prints its
+/// Reads the inputs, writes the bytes that the command makes from their value, and then prints its
 /// text.
 pub(crate) fn run_and_print<
     A: Allocator,

@@ -1,4 +1,4 @@
-//! Two logs beside each other.
+//! Comparing two logs.
 
 ghost use Rattle.std.specs.Prelude.{◌≡◌, IfOk, IfErr, OnOk, length};
 ghost use Rattle.cli_calls.specs.Comparing.{diff_by, diff_in, begins_as_frame, IsLogOf, IsNoLogOf};
@@ -19,18 +19,19 @@ use std::alloc::{AllocError, Allocator, Global};
 use std::io::{Read, Write};
 use text_diff::{diff_text, diff_with_fields_text, view_diff_text};
 
-/// What is told of two logs beside each other.
+/// The kinds of comparison of two logs.
 #[derive(Clone, Copy, Debug, PartialEq, Eq)]
 pub enum DiffKind {
-    /// The operations that one of them alone has: the text of `diff_text`.
+    /// The operations that only one of the logs has: the text of `diff_text`.
     Operations,
-    /// The same, and the fields that both alone write: the text of `diff_with_fields_text`.
+    /// These operations, and the fields that such operations of both logs write: the text of
+    /// `diff_with_fields_text`.
     Fields,
-    /// The lines of the session that go and those that come: the text of `view_diff_text`.
+    /// The lines of the session text that are removed or added: the text of `view_diff_text`.
     View,
 }
 
-// What is asked for of two logs.
+// The text of this kind about two logs.
 fn diff_of<A: Allocator + Clone>(
     alloc: A,
     form: DiffKind,
@@ -46,7 +47,7 @@ fn diff_of<A: Allocator + Clone>(
     }
 }
 
-// Whether bytes begin with the length of a frame.
+// Whether bytes begin as a frame does: with a byte 0, the first of its length.
 fn begins_as_frame(bytes: &[u8]) -> bool
     ensures { result ≡ begins_as_frame bytes.now }
 {
@@ -56,7 +57,7 @@ fn begins_as_frame(bytes: &[u8]) -> bool
     }
 }
 
-// The log of the bytes of the input of this index.
+// The log that the bytes of the input at this index encode.
 fn log_of<A: Allocator + Clone>(
     alloc: A,
     frames: Global,
@@ -78,7 +79,7 @@ fn log_of<A: Allocator + Clone>(
     }
 }
 
-// Reads the log of the input of this index.
+// Reads the log of the input at this index.
 fn read_log_of<A: Allocator + Clone, R: Read>(
     alloc: &A,
     frames: Global,
@@ -102,7 +103,7 @@ pub(crate) struct TwoLogs<A: Allocator> {
     right: Log<A>,
 }
 
-// Two inputs, each a log or what `lack` wrote.
+// Two inputs, each a log or a file that `lack` wrote.
 #[derive(Drop)]
 struct LeftAndRight {
     frames: Global,
@@ -136,7 +137,7 @@ impl<A: Allocator + Clone> Input<A> for LeftAndRight {
     }
 }
 
-// What is told of two logs, in lines of a form.
+// Writes a comparison of two logs, in a form of lines.
 #[derive(Drop)]
 struct Diff {
     form: DiffKind,
@@ -160,18 +161,16 @@ impl<A: Allocator + Clone> Command<A, TwoLogs<A>> for Diff {
     }
 }
 
-/// Writes the logs of two inputs beside each other, in the way that is asked for and in a form of
-/// lines.
+/// Compares the logs of two inputs, and writes the text of this kind, in a form of lines.
 ///
-/// An input whose first byte is 0 is read as what `lack` wrote, frames of operations up to Bye: its
-/// log is that of these operations alone. Every other one is read as the text of a log. `frames` is
-/// where the bytes of a frame that is not whole are kept. For n operations it takes a time of n log
-/// n.
+/// An input whose first byte is 0 is read as frames of operations up to Bye, as `lack` writes them:
+/// its log has these operations only. Every other input is read as the text of a log. `frames` is
+/// the allocator for the bytes of an incomplete frame. Takes O(n log n) time for n operations.
 ///
 /// Errors, in this order: `Read` (45), `Log` (11 to 16, 52), or `Sync` (40, 38, 39, 17 or 49) of
-/// the left input, with index 0, and the right one was not asked then; the same of the right input,
-/// with index 1; `Write` (37) where the output's latch has failed, which then holds a prefix of the
-/// text; `Memory` (0) where an allocation failed.
+/// the left input, with index 0 (the right input is not read then); the same errors of the right
+/// input, with index 1; `Write` (37) if the output's latch has failed (the output then holds a
+/// prefix of the text); `Memory` (0) if an allocation failed.
 pub fn diff_logs<A: Allocator + Clone, R: Read, W: Write>(
     alloc: A,
     frames: Global,

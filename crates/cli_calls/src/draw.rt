@@ -22,9 +22,10 @@ use text_timeline::{SpanUnits, timeline_text};
 /// How a session is drawn.
 #[derive(Clone, Copy)]
 pub enum Drawing {
-    /// As text, in so many columns, 1 and more, whose last line says in which ways how long it is.
+    /// As text of `width` columns, 1 or more. `lengths` is the units in which its last line gives
+    /// the length.
     Text { width: u16, lengths: SpanUnits },
-    /// As a picture, with the peaks of the recordings that are at hand: the text of an SVG file.
+    /// As a picture with the peaks of the available recordings: the text of an SVG file.
     Svg,
 }
 
@@ -47,18 +48,18 @@ fn drawing_of<A: Allocator + Clone, B: Allocator, C: Allocator>(
     }
 }
 
-/// How sessions are drawn, and with what.
+/// How sessions are drawn, and from which recordings.
 #[derive(Drop)]
 pub struct SessionDrawing<'c, 'a, C: Allocator> {
     /// As text, or as a picture.
     pub drawing: Drawing,
-    /// How many frames a second has, 1 and more, for the times that are printed.
+    /// The frames per second, 1 or more, for the times that are printed.
     pub rate: u32,
-    /// The recordings at hand, whose peaks a picture shows.
+    /// The available recordings, whose peaks a picture shows.
     pub recordings: &'c Catalogue<'a, C>,
 }
 
-// The drawing of a log's session.
+// Draws the session of a log.
 #[derive(Drop)]
 struct Drawn<'d, 'c, 'a, C: Allocator> {
     how: &'d SessionDrawing<'c, 'a, C>,
@@ -86,7 +87,7 @@ impl<A: Allocator + Clone, C: Allocator> Command<A, Log<A>> for Drawn<'_, '_, '_
 }
 
 /// Draws the session of the union of the inputs' logs, and writes nothing else: the text of
-/// `text_timeline`, in a number of columns, or the one of `text_svg`. Fails as `view_logs`.
+/// `text_timeline`, in a number of columns, or that of `text_svg`. Errors: as `view_logs`.
 pub fn draw_logs<A: Allocator + Clone, C: Allocator, R: Read, W: Write>(
     alloc: A,
     how: &SessionDrawing<'_, '_, C>,

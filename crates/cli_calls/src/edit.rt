@@ -1,4 +1,4 @@
-//! Making the changes of a script to a log.
+//! Making the changes of a script in a log.
 
 ghost use Rattle.std.specs.Prelude.{◌≡◌, ◌++◌, length, Ok, Some, IfOk, IfErr, OnOk};
 ghost use Rattle.std.specs.String.{string_bytes};
@@ -23,7 +23,7 @@ use std::alloc::{AllocError, Allocator};
 use std::io::{Read, Write};
 use text_json::with_frames;
 
-// Why a script is not run.
+// The fault of a command for that of a script.
 fn refused_script(fault: ScriptFault) -> CliFault
     ensures { result ≡ script_fault fault }
 {
@@ -33,7 +33,7 @@ fn refused_script(fault: ScriptFault) -> CliFault
     }
 }
 
-/// Appends the line of these words and a number.
+/// Appends the line of `front` and a number.
 pub(crate) fn append_number_line<A: Allocator>(
     text: &mut String<A>,
     front: &str,
@@ -46,7 +46,7 @@ pub(crate) fn append_number_line<A: Allocator>(
     text.push_str("\n")
 }
 
-// The line of how many changes were made.
+// The line with the number of changes.
 fn count_text<A: Allocator>(alloc: A, count: usize) -> Result<String<A>, AllocError>
     ensures { IfOk result (λ text. string_bytes text ≡ ops_line count) }
 {
@@ -55,8 +55,8 @@ fn count_text<A: Allocator>(alloc: A, count: usize) -> Result<String<A>, AllocEr
     Ok(text)
 }
 
-// The bytes of what is left of a draft, its log, and the line of how many changes were made.
-// `Memory` also where the draft has failed.
+// The bytes of a draft's log, and the line with the number of changes. `Memory` also if the draft
+// has failed and has no log.
 fn made_of<A: Allocator + Clone>(
     alloc: A,
     log: &Option<Log<A>>,
@@ -76,7 +76,8 @@ fn made_of<A: Allocator + Clone>(
     Ok(Made { bytes, text })
 }
 
-// What an editor of this name makes of a log by a script, in a draft.
+// The log that the editor of this name makes by a script, as bytes, and the line with the number of
+// changes.
 fn edited<A: Allocator + Clone>(
     alloc: A,
     name: Replica,
@@ -96,7 +97,7 @@ fn edited<A: Allocator + Clone>(
     }
 }
 
-// The changes of a script, by the editor of this name.
+// Applies a script to a log, as the editor of this name.
 #[derive(Drop)]
 struct Edit {
     name: Replica,
@@ -120,16 +121,15 @@ impl<A: Allocator + Clone> Printing<A, LogAndBytes<A>> for Edit {
     }
 }
 
-/// Makes the changes of the script that the second input gives to the first input's log, as the
-/// editor of this name, all or none; writes the new log into `output`, and then the line `ops N`
-/// into `printed`, the number of changes. Where a rate is given the script may say times and
-/// decibels, at so many frames a second, of which 0 counts as 1 (`text_json::with_frames`).
+/// Makes the changes of the second input's script in the first input's log, all or none, as the
+/// editor of this name. Writes the new log into `output`, and then the line `ops N`, with the
+/// number of changes, into `printed`. If a rate is given, in frames per second (0 counts as 1), the
+/// script may contain times and decibels (`text_json::with_frames`).
 ///
-/// Errors, in this order: as `lack_log` while reading; `Script` at the first line at fault, with
-/// its number, counted from 1 (41 or 42); `Write` (37) where the latch of `output` has failed,
-/// which then holds a prefix of the new log's text, and nothing was printed; `Print` (37) where
-/// that of `printed` has failed, which then holds a prefix of the line; `Memory` (0) where an
-/// allocation failed.
+/// Errors, in this order: as `lack_log` while reading; `Script` (41 or 42) with the number of the
+/// first line at fault, counted from 1; `Write` (37) if the latch of `output` has failed (it then
+/// holds a prefix of the new log's text, and nothing was printed); `Print` (37) if that of
+/// `printed` has failed (it then holds a prefix of the line); `Memory` (0) if an allocation failed.
 pub fn edit_log<A: Allocator + Clone, R: Read, W: Write, T: Write>(
     alloc: A,
     name: Replica,

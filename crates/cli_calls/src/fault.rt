@@ -1,4 +1,4 @@
-//! Why a command was refused.
+//! The faults of commands.
 
 ghost use Rattle.std.specs.Prelude.{◌≡◌};
 ghost use Rattle.cli_calls.specs.Faults.{number_of, lay_number};
@@ -15,26 +15,26 @@ use mt_sync::{MessageFault, SyncFault};
 use std::alloc::{AllocError, AllocFailed};
 use thiserror::Error;
 
-/// Why OUT is not made, or does not get its name. OUT is then as it was.
+/// Why OUT is not made, or does not get its name. OUT itself is unchanged.
 #[derive(Clone, Copy, Debug, PartialEq, Eq, Error)]
 pub enum PartFault {
-    /// OUT is there, and was to be new.
+    /// OUT exists, but was to be new.
     #[error("is there")]
     OutThere,
-    /// There is an `OUT.part`, which is not touched.
+    /// `OUT.part` exists already. It is not touched.
     #[error("has a part that is there")]
     PartThere,
-    /// `OUT.part` cannot be made, or cannot have the permissions of OUT.
+    /// `OUT.part` cannot be made, or cannot be given the permissions of OUT.
     #[error("cannot be made")]
     NotMade,
-    /// What was written cannot get the name OUT: the system does not give it, or OUT is a log that
-    /// was read, and another program has replaced it since, or holds its lock.
+    /// The written file cannot get the name OUT: the system refuses it, or OUT is a log that was
+    /// read, and another program has replaced it since or holds its lock.
     #[error("cannot get its name")]
     NotNamed,
 }
 
 impl PartFault {
-    /// The refusal's number: 37.
+    /// The fault's number: 37.
     pub fn number(&self) -> u8
         ensures { result ≡ 37 }
     {
@@ -47,23 +47,23 @@ impl PartFault {
     }
 }
 
-/// Why a recording is not laid on a track.
+/// Why a recording cannot be laid on a track.
 #[derive(Clone, Copy, Debug, PartialEq, Eq, Error)]
 pub enum LayFault {
-    /// It has no frame, and no clip has none.
+    /// The recording has no frames; a clip has at least one.
     #[error("it has no frame")]
     ZeroLength,
-    /// It is of another rate.
+    /// The recording has another rate.
     #[error("it is of another rate")]
     RateDiffers,
-    /// It would begin behind the last position there is.
+    /// The clip would begin after the last position, frame 4,294,967,295.
     #[error("it would begin behind frame 4294967295")]
     TooLong,
 }
 
 impl LayFault {
-    /// The refusal's number: that of a clip without a frame, of another rate in a render, and of a
-    /// programme that is too long.
+    /// The fault's number: 6, as for a clip without a frame; 34, as for another rate in a render;
+    /// or 35, as for a programme that is too long.
     pub fn number(&self) -> u8
         ensures { result ≡ lay_number self.now }
     {
@@ -75,71 +75,71 @@ impl LayFault {
     }
 }
 
-/// Why a command was refused. Inputs are counted from 0. It tells all that is known of the cause:
-/// which input, record, line or output.
+/// Why a command failed. A fault has all that is known of the cause: which input, record, line or
+/// output. Inputs are counted from 0.
 #[derive(Clone, Copy, Debug, PartialEq, Eq, Error)]
 pub enum CliFault {
     #[error("out of memory")]
     Memory,
-    /// The input of this index failed, or cannot be opened.
+    /// The input at this index failed, or cannot be opened.
     #[error("input {0} cannot be read")]
     Read(usize),
-    /// The bytes of the input of this index are no log's text.
+    /// The bytes of the input at this index are not the text of a log.
     #[error("input {0} is no log: {1}")]
     Log(usize, LogFault),
     /// Two logs have different operations under this dot.
     #[error("two operations have one name")]
     Merge(Dot),
-    /// The bytes of the recording of this index are no wave file.
+    /// The bytes of the recording at this index are not a wave file.
     #[error("recording {0} is no wave file: {1}")]
     Source(usize, WaveFault),
     /// The programme cannot be mixed, or its file is too long.
     #[error("the programme cannot be rendered: {0}")]
     Mix(MixFault),
-    /// The recording of this index is not laid on a track.
+    /// The recording at this index cannot be laid on a track.
     #[error("recording {0} is not laid: {1}")]
     Lay(usize, LayFault),
     /// The output failed.
     #[error("the output cannot be written")]
     Write,
-    /// The file that is to be written cannot be made, or does not get its name.
+    /// The file to write cannot be made, or does not get its name.
     #[error("the output {0}")]
     Part(PartFault),
-    /// The output failed on which a count or a text is told beside a file that is written.
+    /// The output failed on which a count or a text is printed in addition to a written file.
     #[error("what was done cannot be told")]
     Print,
-    /// A word that is to name an editor is no UUID, or one that is to name a track no stamp.
+    /// A word that must name an editor is not a UUID, or one that must name a track is not a stamp.
     #[error("the name of an editor or a track: {0}")]
     Name(StampFault),
-    /// A word that is to name a recording is no digest.
+    /// A word that must name a recording is not a digest.
     #[error("the recording's name: {0}")]
     Digest(OpFault),
-    /// So many items have what is looked for, where it has to be one.
+    /// This many items match a query that must match exactly one.
     #[error("{0} items have what is looked for")]
     NoSuchItem(usize),
-    /// A text of the head of a wave file is not taken.
+    /// A text for the head of a wave file is not accepted.
     #[error("{0}")]
     Head(HeadFault),
-    /// The format of a wave file is not one that is written.
+    /// The format is not one in which wave files are written.
     #[error("{0}")]
     Format(FormatFault),
-    /// The script is refused, at the line that the fault tells.
+    /// The script is refused; the fault has the line.
     #[error("the script is refused: {0}")]
     Script(ScriptFault),
-    /// The bytes that are to say what another editor has are no such message, or the message of a
-    /// log is too long.
+    /// The bytes that must describe what another editor has are no such message, or the message of
+    /// a log is too long.
     #[error("what an editor has: {0}")]
     Message(MessageFault),
-    /// The conversation, or the taking of another editor's operations, did not come to its end.
+    /// The conversation, or taking another editor's operations, did not reach its end.
     #[error("the other editor's operations: {0}")]
     Sync(SyncFault),
-    /// An address cannot be bound, accepted at or connected to.
+    /// An address cannot be bound or connected to, or no connection can be accepted at it.
     #[error("the address cannot be met at")]
     Net,
 }
 
 impl CliFault {
-    /// The refusal's number; of a refusal inside another the inner one's.
+    /// The fault's number; for a fault that contains another, the number of the inner one.
     pub fn number(&self) -> u8
         ensures { result ≡ number_of self.now }
     {

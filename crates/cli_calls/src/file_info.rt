@@ -1,4 +1,4 @@
-//! What the wave file of an input says of itself, in a form of lines.
+//! The description of an input's wave file, in a form of lines.
 
 ghost use Rattle.std.specs.Prelude.{◌≡◌, ℕ, List, length};
 ghost use Rattle.mt_bwfread.specs.Wave.{IsWave};
@@ -19,27 +19,28 @@ use std::alloc::{Allocator, Global};
 use std::io::{Read, Write};
 use wave_header::WaveHeader;
 
-/// In what the positions and lengths of a file are printed.
+/// The unit in which the positions and lengths of a file are printed.
 #[derive(Clone, Copy)]
 pub enum InfoUnit {
     /// In frames.
     Frames,
     /// As times, at the file's own rate.
     OwnRate,
-    /// As times, at this many frames a second, of which 0 counts as 1.
+    /// As times, at this many frames per second (0 counts as 1).
     Rate(u32),
 }
 
-/// In which form the lines about a file are printed.
+/// The form in which the lines about a file are printed.
 #[derive(Clone, Copy)]
 pub struct InfoForm {
     /// The unit of positions and lengths.
     pub unit: InfoUnit,
-    /// A JSON object for each line, made in this memory.
+    /// A JSON object for each line, made with this allocator.
     pub json: Option<Global>,
 }
 
-// At how many frames a second times are printed of the file of this outline, if they are.
+// The frames per second for printed times of the file of this outline; none if positions and
+// lengths are printed in frames.
 fn rate_in<A: Allocator>(unit: InfoUnit, header: &WaveHeader<A>) -> Option<u32>
     ensures { (bytes : List ℕ) → IsWaveHeader bytes header.now → IsWave bytes → result
         ≡ rate_in unit bytes }
@@ -54,8 +55,8 @@ fn rate_in<A: Allocator>(unit: InfoUnit, header: &WaveHeader<A>) -> Option<u32>
     }
 }
 
-// Writes what the file of this outline says, in lines of a form. What is as it is need not be made
-// in memory.
+// Writes the description of the file of this outline, in a form of lines. Plain lines are written
+// directly, without making the text in memory.
 fn put_lines<A: Allocator + Clone, W: Write>(
     alloc: A,
     lines: TextOptions,
@@ -75,7 +76,7 @@ fn put_lines<A: Allocator + Clone, W: Write>(
     }
 }
 
-// One input, of which the outline is kept.
+// One input, of which only the outline is kept.
 struct OneWaveHeader;
 
 impl<A: Allocator + Clone> Input<A> for OneWaveHeader {
@@ -100,7 +101,7 @@ impl<A: Allocator + Clone> Input<A> for OneWaveHeader {
     }
 }
 
-// What a file says of itself, in a form.
+// Writes the description of a file, in a form.
 #[derive(Drop)]
 struct Info {
     form: InfoForm,
@@ -125,13 +126,13 @@ impl<A: Allocator + Clone> Command<A, WaveHeader<A>> for Info {
     }
 }
 
-/// Writes what the wave file of the one input says of itself: the text of `write_info`, in a form.
-/// The samples are not kept, so the memory is that of the file without them.
+/// Writes the description of the one input's wave file: the text of `write_info`, in a form. The
+/// samples are not kept, so the memory used is that of the file without them.
 ///
-/// Errors, in this order: `Read` (45) with index 0 where the input's latch has failed; `Source` (26
-/// to 32) with index 0 where the file is no wave file; `Write` (37) where the output's latch has
-/// failed, which then holds a prefix of the text; `Memory` (0) where an allocation failed. Nothing
-/// is written before the file has been read to its end.
+/// Errors, in this order: `Read` (45) with index 0 if the input's latch has failed; `Source` (26 to
+/// 32) with index 0 if the file is not a wave file; `Write` (37) if the output's latch has failed
+/// (the output then holds a prefix of the text); `Memory` (0) if an allocation failed. Nothing is
+/// written before the file has been read to its end.
 pub fn info_file<A: Allocator + Clone, R: Read, W: Write>(
     alloc: A,
     form: InfoForm,

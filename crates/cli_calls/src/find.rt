@@ -1,4 +1,4 @@
-//! Finding the items of a log's session.
+//! Finding items in the session of a log.
 
 ghost use Rattle.std.specs.Prelude.{◌≡◌, ◌++◌, ◌∷◌, [], length, if◌then◌else◌, IfOk, OnOk};
 ghost use Rattle.std.specs.Str.{bytes_eq};
@@ -25,7 +25,7 @@ use mt_stamp::Stamp;
 use std::alloc::{AllocError, Allocator};
 use std::io::{Read, Write};
 
-/// What items are looked for by.
+/// The property by which items are found.
 #[derive(Clone, Copy)]
 pub enum FindQuery<'a> {
     /// Tracks whose title is exactly this text.
@@ -50,7 +50,7 @@ fn plays(clip: &ClipView, source: Digest) -> bool
     clip.source.cmp(&source).is_eq()
 }
 
-// Puts a stamp behind others, where it is one that is looked for.
+// Appends a stamp to others, if it is one of an item that is found.
 fn push_where<A: Allocator>(
     is_found: bool,
     stamp: Stamp,
@@ -96,7 +96,7 @@ fn markers_titled<A: Allocator, B: Allocator>(
     Ok(stamps)
 }
 
-// Puts the stamps of those of these clips behind others that play the recording of this digest.
+// Appends the stamps of those of these clips that play the recording of this digest.
 fn push_playing<A: Allocator>(
     source: Digest,
     clips: &[ClipView],
@@ -125,7 +125,7 @@ fn clips_playing<A: Allocator, B: Allocator>(
     Ok(stamps)
 }
 
-// The stamps of the items of a session that have what is looked for.
+// The stamps of the items of a session that match a query.
 fn found<A: Allocator, B: Allocator>(
     alloc: A,
     wanted: &FindQuery<'_>,
@@ -140,7 +140,7 @@ fn found<A: Allocator, B: Allocator>(
     }
 }
 
-// Writes a stamp and a line feed.
+// Appends a stamp and a line feed.
 fn append_line<A: Allocator>(text: &mut String<A>, stamp: Stamp) -> Result<(), AllocError>
     ensures { OnOk result (string_bytes text.new ≡ string_bytes text.old
         ++ (stamp_text stamp ++ newline ∷ [])) }
@@ -149,7 +149,7 @@ fn append_line<A: Allocator>(text: &mut String<A>, stamp: Stamp) -> Result<(), A
     text.push_str("\n")
 }
 
-// Stamps, a line each.
+// The text of stamps, a line each.
 fn stamp_lines<A: Allocator>(alloc: A, stamps: &[Stamp]) -> Result<String<A>, AllocError>
     ensures { IfOk result (λ text. string_bytes text ≡ stamp_lines stamps.now) }
 {
@@ -160,7 +160,8 @@ fn stamp_lines<A: Allocator>(alloc: A, stamps: &[Stamp]) -> Result<String<A>, Al
     Ok(text)
 }
 
-// Writes the lines of what was found, where it may be told.
+// Writes the lines of the found items; fails if exactly one was to be found and their number is
+// another.
 fn put_answer<A: Allocator, W: Write>(
     alloc: A,
     one: bool,
@@ -176,7 +177,7 @@ fn put_answer<A: Allocator, W: Write>(
     put_bytes(text.as_bytes(), output)
 }
 
-// The items of a log's session that have what is looked for.
+// Writes the items of a log's session that match a query.
 #[derive(Drop)]
 struct Find<'w, 'a> {
     one: bool,
@@ -202,15 +203,14 @@ impl<A: Allocator + Clone> Command<A, Log<A>> for Find<'_, '_> {
     }
 }
 
-/// Writes the stamps of the items of the session of the log of the one input that have what is
-/// looked for, a line each in the session's order: of tracks and markers those whose title is
-/// exactly that text, of clips those of all tracks that play that recording. Where `one` is asked,
-/// it has to be exactly one item.
+/// Writes the stamps of those items of the session of the one input's log that match the query, a
+/// line each in the session's order: tracks or markers whose title is exactly that text, or clips
+/// of any track that play that recording. If `one` is true, exactly one item must match.
 ///
-/// Errors, in this order: `Read` (45) where the input's latch has failed, or `Log` (11 to 16, 52)
-/// where its bytes are no log, each with index 0; `NoSuchItem` (21) with how many items there are,
-/// where one is asked and it is another number; `Write` (37) where the output's latch has failed,
-/// which then holds a prefix of the text; `Memory` (0) where an allocation failed.
+/// Errors, in this order: `Read` (45) if the input's latch has failed, or `Log` (11 to 16, 52) if
+/// its bytes are not a log, each with index 0; `NoSuchItem` (21) with the number of matching items,
+/// if `one` is true and this number is not 1; `Write` (37) if the output's latch has failed (the
+/// output then holds a prefix of the text); `Memory` (0) if an allocation failed.
 pub fn find_items<A: Allocator + Clone, R: Read, W: Write>(
     alloc: A,
     one: bool,

@@ -13,25 +13,25 @@ use std::alloc::{AllocError, Allocator, Global};
 use std::io::Write;
 use text_json::{json_text, timed_text};
 
-/// The form in which the lines of a text are printed: as they are, or changed in one or both of two
+/// The form in which the lines of a text are printed: unchanged, or changed in one or both of two
 /// ways.
 #[derive(Clone, Copy)]
 pub struct TextOptions {
-    /// Positions and lengths as times, at so many frames a second, of which 0 counts as 1; else in
+    /// Positions and lengths as times, at this many frames per second (0 counts as 1); if none, in
     /// frames.
     pub rate: Option<u32>,
-    /// A JSON object for each line, which is made in this memory.
+    /// A JSON object for each line, made with this allocator.
     pub json: Option<Global>,
 }
 
 impl TextOptions {
-    /// Lines as they are.
+    /// Unchanged lines.
     pub const PLAIN: TextOptions = TextOptions {
         rate: None,
         json: None,
     };
 
-    /// Whether lines are printed as they are.
+    /// Whether lines are printed unchanged.
     pub(crate) fn is_plain(&self) -> bool
         ensures { IsTrue result → (self.now.rate ≡ None) × (self.now.json ≡ None) }
     {
@@ -39,7 +39,7 @@ impl TextOptions {
     }
 }
 
-/// A rate, of which 0 counts as 1.
+/// A rate (0 counts as 1).
 pub(crate) fn at_least_one(rate: u32) -> u32
     ensures value { result ≡ max rate 1 }
     ensures some { 1 ≤ result }
@@ -47,7 +47,7 @@ pub(crate) fn at_least_one(rate: u32) -> u32
     if rate == 0 { 1 } else { rate }
 }
 
-// A text with times at a rate, of which 0 counts as 1.
+// A text with times at a rate (0 counts as 1).
 fn timed_at<A: Allocator>(alloc: A, rate: u32, text: &[u8]) -> Result<Vec<u8, A>, AllocError>
     ensures { IfOk result (λ timed. timed.items ≡ timed_text (max rate 1) text.now) }
 {

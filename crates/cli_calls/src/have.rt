@@ -1,4 +1,4 @@
-//! What a log has.
+//! Summarising the operations of a log.
 
 ghost use Rattle.std.specs.Prelude.{◌≡◌, length};
 ghost use Rattle.cli_calls.specs.Faults.{message_fault};
@@ -16,7 +16,7 @@ use mt_sync::{MessageFault, have_bytes};
 use std::alloc::Allocator;
 use std::io::{Read, Write};
 
-// Why a message is not written, or is none.
+// The fault of a command for that of a message.
 pub(crate) fn refused_message(fault: MessageFault) -> CliFault
     ensures { result ≡ message_fault fault }
 {
@@ -26,7 +26,7 @@ pub(crate) fn refused_message(fault: MessageFault) -> CliFault
     }
 }
 
-// The frame of a log's Have.
+// Writes the frame of a log's Have.
 struct Have;
 
 impl<A: Allocator + Clone> Command<A, Log<A>> for Have {
@@ -47,13 +47,13 @@ impl<A: Allocator + Clone> Command<A, Log<A>> for Have {
     }
 }
 
-/// Writes which operations the log of the one input has, and nothing else: a frame with the Have of
-/// its summary.
+/// Writes which operations the one input's log has, and nothing else: a frame with the Have of its
+/// summary.
 ///
-/// Errors, in this order: `Read` (45) where the input's latch has failed, or `Log` (11 to 16, 52)
-/// where its bytes are no log, each with index 0; `Message` (40) where the Have does not fit a
-/// frame; `Write` (37) where the output's latch has failed, which then holds a prefix of the frame;
-/// `Memory` (0) where an allocation failed.
+/// Errors, in this order: `Read` (45) if the input's latch has failed, or `Log` (11 to 16, 52) if
+/// its bytes are not a log, each with index 0; `Message` (40) if the Have does not fit into a
+/// frame; `Write` (37) if the output's latch has failed (the output then holds a prefix of the
+/// frame); `Memory` (0) if an allocation failed.
 pub fn have_log<A: Allocator + Clone, R: Read, W: Write>(
     alloc: A,
     inputs: &mut [Latch<R>],

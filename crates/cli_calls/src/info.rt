@@ -1,4 +1,12 @@
-//! What a wave file says of itself.
+//! The description of a wave file as text.
+//!
+//! Its lines are `digest` (its SHA-256), `rate` (frames per second), `channels`, `bits` (per
+//! sample) and `frames`; then `bext none`, or `bext` with the version of the broadcast extension,
+//! followed by its `description`, `originator`, `reference`, `date`, `time`, `time-reference`
+//! (frames from midnight to the first frame) and `history`; then `cue NAME at FRAME` for each cue
+//! point, with ` len FRAMES` if it has a length and then ` label TEXT` if it has a label. In texts
+//! from the file each byte from 0x20 to 0x7E except the backslash appears unchanged, and every
+//! other byte as `\x` and two hex digits.
 
 ghost use Rattle.std.specs.Prelude.{◌≡◌, map};
 ghost use Rattle.std.specs.Fmt.{decimal};
@@ -22,7 +30,7 @@ use std::io::Write;
 use text_cues::cues_in;
 use wave_header::WaveHeader;
 
-// Puts a byte of a file's text: as it is, or as `\x` and two digits.
+// Puts a byte of a file's text: unchanged, or as `\x` and two digits.
 #[tactic(auto, unfolding(crate::specs::Info::shown_byte))]
 fn put_shown_byte<W: Write>(output: &mut BufferedLatch<'_, W>, byte: u8)
     ensures { Puts W.contents output.old output.new (shown_byte byte) }
@@ -152,21 +160,16 @@ fn put_cues<W: Write>(output: &mut BufferedLatch<'_, W>, cues: &[Cue<'_>])
     }
 }
 
-/// Writes what a wave file says of itself, a line each: `digest` (its SHA-256), `rate` (frames a
-/// second), `channels`, `bits` (of a sample), `frames`; then `bext none`, or `bext` with the
-/// version of the broadcast extension and its `description`, `originator`, `reference`, `date`,
-/// `time`, `time-reference` (frames from midnight to the first) and `history`; then `cue NAME at
-/// FRAME` for each cue point, and on its line ` len FRAMES` where it has a length, and then ` label
-/// TEXT` where it has a label. In a file's text each byte from 0x20 to 0x7E but the backslash
-/// stands for itself, and every other byte is `\x` and two hex digits.
+/// Writes the description of a wave file: its digest, format and length, its broadcast extension
+/// and its cue points, a line each, as at the head of this module.
 ///
-/// Refused as `Source` (26 to 32) with place 0 where the bytes are no wave file, by the first of
-/// its faults, and as `Memory` (0) where an allocation failed, each with nothing written; as
-/// `Write` (37) where the output's latch has failed, which then holds a prefix of the text.
+/// Errors: `Source` (26 to 32) with place 0 and the first fault, if the bytes are not a wave file,
+/// and `Memory` (0) if an allocation failed, each with nothing written; `Write` (37) if the
+/// output's latch has failed (the output then holds a prefix of the text).
 ///
-/// The time is that of hashing the bytes, of a walk each over the chunks for the lengths and the
-/// labels, and of the text: a label stands in it once for each cue point of its name. The memory is
-/// that of the list of the cues.
+/// Takes the time to hash the bytes, to walk the chunks once for the lengths and once for the
+/// labels, and to write the text, in which a label appears once for each cue point of its name. The
+/// memory is that of the list of the cues.
 pub fn write_info<A: Allocator + Clone, W: Write>(
     alloc: A,
     bytes: &[u8],
@@ -180,8 +183,9 @@ pub fn write_info<A: Allocator + Clone, W: Write>(
     }
 }
 
-/// Writes the same of a wave file by its outline, and is refused as for the file. The time is that
-/// of the text and of the walks over the chunks of the outline, which has been hashed.
+/// Writes the description of a wave file, as `write_info`, from its outline. Errors: as
+/// `write_info` of the file. Takes the time to write the text and to walk the chunks of the
+/// outline; its digest is already known.
 pub fn write_header<A: Allocator + Clone, W: Write>(
     alloc: A,
     header: &WaveHeader<A>,
@@ -197,7 +201,7 @@ pub fn write_header<A: Allocator + Clone, W: Write>(
     write_told(alloc, digest, &wave, header.frames(&wave), output)
 }
 
-// Writes what is read off the bytes of a wave file, with this digest and so many frames.
+// Writes the description of a wave file with this digest and this many frames.
 fn write_told<A: Allocator + Clone, W: Write>(
     alloc: A,
     digest: Digest,
@@ -215,7 +219,7 @@ fn write_told<A: Allocator + Clone, W: Write>(
     write_lines(digits.as_str(), wave, frames, &cues, output)
 }
 
-// Writes that text of these digits and cues.
+// Writes the description with these digits of the digest, and these cues.
 #[tactic(auto, unfolding(base_io::specs::Buffered::Puts))]
 fn write_lines<W: Write>(
     digits: &str,
@@ -236,7 +240,7 @@ fn write_lines<W: Write>(
     Ok(())
 }
 
-// Puts that text.
+// Puts the description with these digits of the digest, and these cues.
 fn put_lines<W: Write>(
     output: &mut BufferedLatch<'_, W>,
     digits: &str,

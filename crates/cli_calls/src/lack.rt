@@ -1,4 +1,4 @@
-//! What a log has and another editor lacks.
+//! Finding the operations that a log has and another editor lacks.
 
 ghost use Rattle.std.specs.Prelude.{◌≡◌, length};
 ghost use Rattle.cli_calls.specs.Reading.{GaveBoth, BothCause};
@@ -15,7 +15,7 @@ use mt_sync::lack_bytes;
 use std::alloc::Allocator;
 use std::io::{Read, Write};
 
-// The operations of a log that the summary in other bytes does not cover.
+// Writes the operations of a log that the summary in other bytes does not cover.
 struct Lack;
 
 impl<A: Allocator + Clone> Command<A, LogAndBytes<A>> for Lack {
@@ -36,15 +36,15 @@ impl<A: Allocator + Clone> Command<A, LogAndBytes<A>> for Lack {
     }
 }
 
-/// Writes the operations of the first input's log that the summary does not cover which the second
-/// input gives, as frames of Ops and Bye, and nothing else.
+/// Writes those operations of the first input's log that the summary in the second input does not
+/// cover, as frames of Ops and Bye, and nothing else.
 ///
-/// Errors, in this order: `Read` (45) with index 0 where the first latch has failed, or `Log` (11
-/// to 16, 52) with index 0 where its bytes are no log, and the second input was not asked then;
-/// `Read` with index 1 where the second latch has failed; `Message` where the length at the front
-/// of the second input's bytes is too great (40), or they are not one frame with a Have (38);
-/// `Write` (37) where the output's latch has failed, which then holds a prefix of the bytes;
-/// `Memory` (0) where an allocation failed.
+/// Errors, in this order: `Read` (45) with index 0 if the first latch has failed, or `Log` (11 to
+/// 16, 52) with index 0 if its bytes are not a log (the second input is not read then); `Read` with
+/// index 1 if the second latch has failed; `Message` if the length at the front of the second
+/// input's bytes is too great (40), or if they are not one frame with a Have (38); `Write` (37) if
+/// the output's latch has failed (the output then holds a prefix of the bytes); `Memory` (0) if an
+/// allocation failed.
 pub fn lack_log<A: Allocator + Clone, R: Read, W: Write>(
     alloc: A,
     inputs: &mut [Latch<R>],

@@ -1,4 +1,4 @@
-//! The headline, and when refusals are equal: each law is the contract of a small function, which
+//! The headline, and when faults are equal: each law is the contract of a small function, which
 //! does nothing or only compares.
 
 ghost use Rattle.std.specs.Prelude.{◌≡◌, ◌↔◌, ℕ, IsTrue, List, Result};
@@ -27,18 +27,16 @@ use mt_opcodec::laws::logs_in_memory;
 use std::alloc::Allocator;
 use std::io::{Read, Write};
 
-/// Replicas with the same operations, spread over logs, ordered and repeated as may be: the logs of
-/// both agree, or clash on both sides. Where they agree both have one union, and so one session,
-/// one text of it, one text of the operations, and one log that is merged of them; and over
-/// recordings that are the same under the digests of the session's audible clips, in one format and
-/// with one head, one file is written of both, byte for byte, or both are refused for the same.
-/// Editors whose logs have the same operations lend one session, and of one log the same is told as
-/// of an editor that has it; and a log that is merged of others has their operations, and can stand
-/// for them.
+/// Replicas with the same operations, spread over logs in any order and with repetitions: the logs
+/// of both agree, or conflict on both sides. If they agree, both have one union, so one session,
+/// one text of it, one text of the operations, and one merged log. Over recordings that are equal
+/// under the digests of the session's audible clips, in one format and with one head, both give one
+/// file, byte for byte, or the same fault. Editors whose logs have the same operations lend one
+/// session, and a log prints the same as an editor that has it. A log merged from others has their
+/// operations, and can replace them.
 ///
-/// That each log is the set of its operations is asked for; of a log in memory `log_in_memory` says
-/// it, and so of each log that a command has read, whose bytes are those of this log alone
-/// (`mt_opcodec::laws::one_log`).
+/// Each log must be the set of its operations: a log in memory is one (`log_in_memory`), so each
+/// log that a command has read, whose bytes encode no other log (`mt_opcodec::laws::one_log`).
 pub fn headline()
     ensures agree { SameAgree }
     ensures told { SameIsTold }
@@ -48,8 +46,8 @@ pub fn headline()
     ensures merged { MergedIsSame }
 {}
 
-/// A log in memory is one that bytes can encode, and so the set of its operations: each is valid,
-/// stands under its own dot and names older ones.
+/// A log in memory can be encoded as bytes, so it is the set of its operations: each is valid, is
+/// stored under its own dot, and names only older ones.
 pub fn log_in_memory<A: Allocator>(log: &Log<A>)
     ensures is_log { IsLog log.now }
     ensures is_set { IsSet log.now }
@@ -57,24 +55,24 @@ pub fn log_in_memory<A: Allocator>(log: &Log<A>)
     logs_in_memory(log);
 }
 
-/// The line of a recording that is laid on a track that a stamp names is what a log tells of an
-/// operation that adds a clip of the whole recording: so it is a line of a script
-/// (`mt_script::laws::acts_read_back`), which adds that clip.
+/// The line that lays a recording on the track of a stamp is the line that `log` prints for an
+/// operation that adds a clip of the whole recording. So it is a line of a script that adds that
+/// clip (`mt_script::laws::acts_read_back`).
 pub fn laid_clips()
     ensures { LaidIsTold }
 {}
 
-/// Refusals of a command are equal where they are of one case and say the same: the same index, the
-/// same dot, and the same fault inside.
+/// Faults of a command are equal if they are of one variant with equal contents: the same index,
+/// the same dot, and the same inner fault.
 pub fn equal_cli_faults(fault: &CliFault, other: &CliFault) -> bool
     ensures { IsTrue result ↔ (fault.now ≡ other.now) }
 {
     fault == other
 }
 
-/// What `view_logs` promises: where it answers Ok, it has written the text of the session of the
-/// union of the inputs' logs, and nothing else; `Merge` comes only of logs that clash, `Write` only
-/// of an output that has failed, and else nothing was written.
+/// What `view_logs` promises: if it returns Ok, it has written the text of the session of the union
+/// of the inputs' logs, and nothing else. It returns `Merge` only if logs conflict and `Write` only
+/// if the output has failed. For every fault but `Write` nothing was written.
 pub fn view_logs<R: Read, W: Write>()
     ensures { (before after : Lent (List (LatchValue R)) (LatchValue W))
         (result : Result (Unit {0}) Fault)
@@ -83,7 +81,9 @@ pub fn view_logs<R: Read, W: Write>()
         → WritesUnion R.remaining W.contents log_view before after result }
 {}
 
-/// What `merge_logs` promises: the same of the text of the log of the union.
+/// What `merge_logs` promises: if it returns Ok, it has written the text of the log of the union of
+/// the inputs' logs, and nothing else. It returns `Merge` only if logs conflict and `Write` only if
+/// the output has failed. For every fault but `Write` nothing was written.
 pub fn merge_logs<R: Read, W: Write>()
     ensures { (before after : Lent (List (LatchValue R)) (LatchValue W))
         (result : Result (Unit {0}) Fault)
@@ -92,10 +92,10 @@ pub fn merge_logs<R: Read, W: Write>()
         → WritesUnion R.remaining W.contents text_of before after result }
 {}
 
-/// What `bounce_logs` promises: where it answers Ok, it has written the file of the session of the
-/// union of the logs over the recordings, and nothing else; `Mix` comes only of a programme that
-/// cannot be mixed or whose file is too long, `Write` only of an output that has failed, and else
-/// nothing was written.
+/// What `bounce_logs` promises: if it returns Ok, it has written the file of the session of the
+/// union of the logs over the recordings, and nothing else. It returns `Mix` only if the programme
+/// cannot be mixed or its file is too long, and `Write` only if the output has failed. For every
+/// fault but `Write` nothing was written.
 pub fn bounce_logs<R: Read, W: Write>()
     ensures { (layout : Format) (head : HeadText) (before after : Lent (RenderInputs R)
         (LatchValue W))
@@ -106,9 +106,9 @@ pub fn bounce_logs<R: Read, W: Write>()
         → WritesFile R.remaining W.contents layout head before after result }
 {}
 
-/// What `write_info` promises: where it answers Ok, the bytes are a wave file, and it has written
-/// its text, and nothing else; `Source` comes only of bytes that are none, `Write` only of an
-/// output that has failed, and else nothing was written.
+/// What `write_info` promises: if it returns Ok, the bytes are a wave file, and it has written its
+/// description, and nothing else. It returns `Source` only if the bytes are not a wave file, and
+/// `Write` only if the output has failed. For every fault but `Write` nothing was written.
 pub fn write_info<W: Write>()
     ensures { (bytes : List ℕ) (before after : LatchValue W) (result : Result (Unit {0}) Fault)
         → Wrote W.contents (Informs bytes) before after result

@@ -1,4 +1,4 @@
-//! Laying recordings on a track, one behind another.
+//! Laying recordings on a track, one after another.
 
 ghost use Rattle.std.specs.Prelude.{◌≡◌, ◌++◌, ◌<◌, ◌^◌, None, Ok, IfOk, IfErr, OnOk};
 ghost use Rattle.std.specs.String.{string_bytes};
@@ -17,21 +17,21 @@ use mt_op::{Digest, append_digest};
 use std::alloc::{AllocError, Allocator};
 use std::io::{Read, Write};
 
-/// Where recordings are laid.
+/// The place where recordings are laid.
 #[derive(Clone, Copy)]
 pub struct Laying<'a> {
     /// The track, as a script names it: the text of a stamp, or `$` and the number of a line. It
-    /// stands in the lines as it is.
+    /// appears in the lines unchanged.
     pub track: &'a str,
-    /// Where the first begins, in frames.
+    /// The position of the first recording, in frames.
     pub at: u32,
-    /// How many frames lie between the end of one and the next.
+    /// The frames between the end of one recording and the beginning of the next.
     pub gap: u32,
-    /// The frames a second that each has to have.
+    /// The frames per second that each recording must have.
     pub rate: u32,
 }
 
-// What a clip of a whole recording names.
+// The digest, rate and length of a recording, for a clip of all of it.
 #[derive(Clone, Copy)]
 pub(crate) struct Sound {
     pub(crate) digest: Digest,
@@ -95,7 +95,7 @@ impl<A: Allocator + Clone> Input<A> for Sounds {
     }
 }
 
-// Why a recording is not laid at a position, if it is not.
+// The fault of laying a recording at a position, if there is one.
 #[tactic(auto, unfolding(crate::specs::Laying::lay_fault))]
 fn fault_of(laying: &Laying<'_>, at: u64, sound: &Sound) -> Option<LayFault>
     ensures exact { result ≡ lay_fault laying.now at sound.now }
@@ -113,7 +113,7 @@ fn fault_of(laying: &Laying<'_>, at: u64, sound: &Sound) -> Option<LayFault>
     None
 }
 
-// Writes the words of a recording that is laid at a position.
+// Appends the words that lay a recording at a position.
 fn append_words<A: Allocator + Clone>(
     alloc: A,
     track: &str,
@@ -132,7 +132,7 @@ fn append_words<A: Allocator + Clone>(
     append_number(text, " ", u64::from(sound.frames))
 }
 
-// Writes its line.
+// Appends the line that lays a recording at a position.
 fn append_line<A: Allocator + Clone>(
     alloc: A,
     track: &str,
@@ -147,7 +147,7 @@ fn append_line<A: Allocator + Clone>(
     text.push_str("\n")
 }
 
-// The lines of these recordings.
+// The lines that lay these recordings, or the first fault.
 fn lay_sounds<A: Allocator + Clone>(
     alloc: A,
     laying: &Laying<'_>,
@@ -169,7 +169,7 @@ fn lay_sounds<A: Allocator + Clone>(
     Ok(text)
 }
 
-// The lines that lay recordings.
+// Writes the lines that lay recordings.
 #[derive(Drop)]
 struct Lay<'l, 'a> {
     laying: &'l Laying<'a>,
@@ -194,15 +194,15 @@ impl<A: Allocator + Clone> Command<A, Vec<Sound, A>> for Lay<'_, '_> {
 }
 
 /// Writes lines of a script that lay the recordings of the inputs on a track, from left to right:
-/// for each `add-clip DIGEST TRACK AT 0 FRAMES`, a clip of the whole recording, of which the first
-/// stands where `laying` says, and each other where the one before it ends and the gap is over. The
-/// memory is that of the greatest outline, and of the lines.
+/// for each the line `add-clip DIGEST TRACK AT 0 FRAMES`, a clip of the whole recording. The first
+/// begins where `laying` says, and each other one after the end of the one before it and the gap.
+/// The memory is that of the largest outline and of the lines.
 ///
 /// Errors, in this order: `Read` (45) with the index of an input whose latch has failed, or
-/// `Source` (26 to 32) with the index of one that is no wave file, from left to right; `Lay` with
-/// the index of the first recording that has no frame (6), is of another rate (34), or begins after
-/// frame 4,294,967,295 (35); `Write` (37) where the output's latch has failed, which then holds a
-/// prefix of the text; `Memory` (0).
+/// `Source` (26 to 32) with the index of one that is not a wave file, from left to right; `Lay`
+/// with the index of the first recording that has no frame (6), has another rate (34), or would
+/// begin after frame 4,294,967,295 (35); `Write` (37) if the output's latch has failed (the output
+/// then holds a prefix of the text); `Memory` (0).
 pub fn lay_files<A: Allocator + Clone, R: Read, W: Write>(
     alloc: A,
     laying: &Laying<'_>,

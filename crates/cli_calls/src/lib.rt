@@ -1,8 +1,7 @@
-//! The work of the commands of `radio`, over any readers and writers, of which each is in a latch.
+//! The work of the commands of `radio` over any readers and writers, each in a latch.
 //!
-//! Each call reads its inputs, makes bytes of what they gave, or refuses, and writes these bytes.
-//! What it promises is one clause, a record with a sentence for each promise
-//! (`specs/Running.antt`).
+//! Each call reads its inputs, makes bytes from them or fails, and writes these bytes. The contract
+//! of each call is one clause: a record with a sentence for each promise (`specs/Running.antt`).
 //!
 //! ```rust
 //! use cli_calls::{merge_logs, view_logs};

@@ -15,7 +15,7 @@ use std::alloc::Allocator;
 use std::io::{Read, Write};
 use text_log::operations_text;
 
-// A log's operations, a line each, in a form.
+// Writes a log's operations, a line each, in a form.
 #[derive(Drop)]
 struct Listing {
     form: TextOptions,
@@ -39,7 +39,7 @@ impl<A: Allocator + Clone> Command<A, Log<A>> for Listing {
 }
 
 /// Writes the operations of the union of the inputs' logs, a line each by rising stamp, in a form
-/// of lines: the text of `text_log`. Fails as `view_logs`.
+/// of lines: the text of `text_log`. Errors: as `view_logs`.
 pub fn list_logs<A: Allocator + Clone, R: Read, W: Write>(
     alloc: A,
     form: TextOptions,

@@ -14,7 +14,7 @@ use mt_opcodec::Log;
 use std::alloc::Allocator;
 use std::io::{Read, Write};
 
-// The text of a log itself.
+// Writes the text of a log.
 struct Merge;
 
 impl<A: Allocator + Clone> Command<A, Log<A>> for Merge {
@@ -33,8 +33,8 @@ impl<A: Allocator + Clone> Command<A, Log<A>> for Merge {
     }
 }
 
-/// Writes the log of the union of the inputs' logs, and nothing else; of no input, the log of no
-/// operation. Fails as `view_logs`.
+/// Writes the log of the union of the inputs' logs, and nothing else; without inputs, the empty
+/// log. Errors: as `view_logs`.
 pub fn merge_logs<A: Allocator + Clone, R: Read, W: Write>(
     alloc: A,
     inputs: &mut [Latch<R>],

@@ -1,4 +1,4 @@
-//! Pulling the operations of logs into one.
+//! Pulling the operations of logs into one log.
 
 ghost use Rattle.std.specs.Prelude.{◌≡◌, ◌≤◌, ◌+◌, ◌++◌, length, IfErr, IfOk, OnOk, map, drop};
 ghost use Rattle.std.specs.List.{zip};
@@ -22,21 +22,21 @@ use std::alloc::{AllocError, Allocator};
 use std::collections::VecDeque;
 use std::io::{Read, Write};
 
-// How many operations of a log were new to those before it, and how many these had too.
+// How many operations of a log the logs before it lack, and how many they have too.
 #[derive(Clone, Copy)]
 pub(crate) struct PullCounts {
     pub(crate) new: usize,
     pub(crate) shared: usize,
 }
 
-// The union of logs, and the share of each.
+// The union of logs, and the counts of each.
 #[derive(Drop)]
 struct Merged<A: Allocator> {
     log: Log<A>,
     shares: Vec<PullCounts, A>,
 }
 
-// The union of logs, joined from left to right, with what each adds to those before it.
+// The union of logs, joined from left to right, with the counts of each log.
 fn joined<A: Allocator + Clone>(alloc: A, logs: Vec<Log<A>, A>) -> Result<Merged<A>, CliFault>
     ensures agree { IfOk result (λ _. AllAgree logs.items) }
     ensures log { IfOk result (λ pulled. pulled.log ≡ union_all logs.items) }
@@ -58,7 +58,7 @@ fn joined<A: Allocator + Clone>(alloc: A, logs: Vec<Log<A>, A>) -> Result<Merged
     }
 }
 
-// Joins a log to others.
+// Joins one more log to the union.
 fn join_one<A: Allocator + Clone>(all: Log<A>, log: Log<A>) -> Result<Log<A>, CliFault>
     ensures ok { IfOk result (λ both. Agree all log × (both ≡ union all log)) }
     ensures err { IfErr result (JoinFails all log) }
@@ -70,7 +70,7 @@ fn join_one<A: Allocator + Clone>(all: Log<A>, log: Log<A>) -> Result<Log<A>, Cl
     }
 }
 
-// Appends a log's share under its name.
+// Appends the line of a log's counts and name.
 fn append_share<A: Allocator>(
     text: &mut String<A>,
     name: &str,
@@ -84,7 +84,7 @@ fn append_share<A: Allocator>(
     append_number_line(text, " shared ", share.shared as u64)
 }
 
-/// How many names and things stand beside each other.
+/// The number of pairs of names and things at equal places.
 pub(crate) fn count_pairs<T>(names: &[&str], things: &[T]) -> usize
     ensures named { result ≤ length names.now }
     ensures there { result ≤ length things.now }
@@ -97,7 +97,7 @@ pub(crate) fn count_pairs<T>(names: &[&str], things: &[T]) -> usize
     }
 }
 
-// Appends shares under their names, a line each.
+// Appends the lines of counts and their names.
 fn append_shares<A: Allocator>(
     text: &mut String<A>,
     names: &[&str],
@@ -113,7 +113,7 @@ fn append_shares<A: Allocator>(
     Ok(())
 }
 
-// All but the first.
+// All counts but the first.
 fn behind_first(shares: &[PullCounts]) -> &[PullCounts]
     ensures { result.now ≡ drop 1 shares.now }
 {
@@ -123,7 +123,7 @@ fn behind_first(shares: &[PullCounts]) -> &[PullCounts]
     }
 }
 
-// The shares of logs, but for the first, and how many operations there are in all.
+// The text of the counts of all logs but the first, and of the number of operations in the union.
 fn shares_text<A: Allocator>(
     alloc: A,
     names: &[&str],
@@ -139,7 +139,7 @@ fn shares_text<A: Allocator>(
     Ok(text)
 }
 
-// The union of logs, and what each adds to it, under these names.
+// Writes the union of logs, and prints what each adds to it, under these names.
 #[derive(Drop)]
 struct Pull<'n> {
     names: &'n [&'n str],
@@ -164,16 +164,16 @@ impl<A: Allocator + Clone> Printing<A, Vec<Log<A>, A>> for Pull<'_> {
     }
 }
 
-/// Writes the log of the union of the inputs' logs into `output`, as `merge_logs` does, and then
-/// into `printed` what each input after the first adds to those before it: a line `from NAME new N
-/// shared N` under its name, of the operations that those before it lack, and of those that they
-/// have too; and last the line `ops N`, of all operations of the union. `names` are those of the
+/// Writes the log of the union of the inputs' logs into `output`, as `merge_logs` does. Then prints
+/// into `printed`, for each input after the first, the line `from NAME new N shared N` with the
+/// number of its operations that the logs before it lack, and of those that they have too; and last
+/// the line `ops N`, with the number of operations in the union. `names` are the names of the
 /// inputs after the first.
 ///
-/// Errors, in this order: as `view_logs` up to `Merge`; `Write` (37) where the latch of `output`
-/// has failed, which then holds a prefix of the log's text, and nothing was printed; `Print` (37)
-/// where that of `printed` has failed, which then holds a prefix of the lines; `Memory` (0) where
-/// an allocation failed.
+/// Errors, in this order: as `view_logs` up to `Merge`; `Write` (37) if the latch of `output` has
+/// failed (it then holds a prefix of the log's text, and nothing was printed); `Print` (37) if that
+/// of `printed` has failed (it then holds a prefix of the lines); `Memory` (0) if an allocation
+/// failed.
 pub fn pull_logs<A: Allocator + Clone, R: Read, W: Write, T: Write>(
     alloc: A,
     names: &[&str],

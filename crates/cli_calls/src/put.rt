@@ -35,8 +35,8 @@ pub(crate) fn put_log<A: Allocator + Clone, W: Write>(
     }
 }
 
-/// Writes the text of the log that a holder lends. `Memory` also where it lends none, since it has
-/// failed or an allocation did.
+/// Writes the text of the log that a holder lends. `Memory` also if the holder lends none, because
+/// it or an allocation has failed.
 pub(crate) fn put_lent<A: Allocator + Clone, W: Write, H: OpStore<A>>(
     holder: &mut H,
     output: &mut Latch<W>,

@@ -18,10 +18,10 @@ use std::alloc::Allocator;
 use std::io::Read;
 use wave_header::WaveHeader;
 
-// How many bytes `read_into` asks for in one read.
+// The number of bytes that `read_into` requests in one read.
 const PIECE: usize = 65_536;
 
-/// Reads the bytes of the input of this index.
+/// Reads the bytes of the input at this index.
 pub(crate) fn read_all<A: Allocator + Clone, R: Read>(
     alloc: &A,
     index: usize,
@@ -39,7 +39,8 @@ pub(crate) fn read_all<A: Allocator + Clone, R: Read>(
     }
 }
 
-/// Reads the bytes of the input of this index into the room of a vector, whose own bytes are gone.
+/// Reads the bytes of the input at this index into the memory of a vector, whose former bytes are
+/// dropped.
 pub(crate) fn read_into<A: Allocator, R: Read>(
     room: Vec<u8, A>,
     index: usize,
@@ -64,7 +65,7 @@ pub(crate) fn read_into<A: Allocator, R: Read>(
     }
 }
 
-/// Reads the outline of the file of the input of this index.
+/// Reads the outline of the file of the input at this index.
 pub(crate) fn read_header<A: Allocator + Clone, R: Read>(
     alloc: &A,
     index: usize,
@@ -82,9 +83,10 @@ pub(crate) fn read_header<A: Allocator + Clone, R: Read>(
     }
 }
 
-/// Reads the file of the input of this index, and keeps its digest alone.
+/// Reads the file of the input at this index, and returns its digest.
 ///
-/// Of a wave file no sample is held meanwhile, where they begin in the first MiB.
+/// Of a wave file no samples are held, if they begin in the first MiB. Errors: `Read` (45) with the
+/// index if the input's latch has failed; `Memory` (0) if an allocation failed.
 pub fn read_digest<A: Allocator + Clone, R: Read>(
     alloc: &A,
     index: usize,
@@ -101,7 +103,7 @@ pub fn read_digest<A: Allocator + Clone, R: Read>(
     }
 }
 
-/// Reads the log of the input of this index.
+/// Reads the log of the input at this index.
 pub(crate) fn read_log<A: Allocator + Clone, R: Read>(
     alloc: &A,
     index: usize,
@@ -122,7 +124,7 @@ pub(crate) fn read_log<A: Allocator + Clone, R: Read>(
     }
 }
 
-/// Why the bytes of the input of this index are no log's text.
+/// The fault of the input at this index, whose bytes are not the text of a log.
 pub(crate) fn refused(index: usize, fault: LogFault) -> CliFault
     ensures memory { fault ≡ log.Memory → result ≡ CliFault.Memory }
     ensures other { fault ≢ log.Memory → result ≡ CliFault.Log index fault }
@@ -133,9 +135,9 @@ pub(crate) fn refused(index: usize, fault: LogFault) -> CliFault
     }
 }
 
-/// What is read of one input.
+/// A kind of input, and how one such input is read.
 pub(crate) trait OneInput<A: Allocator> {
-    /// What it gives.
+    /// The value that the input gives.
     type Value;
 
     ghost gives: { Self → (R : Type 0) → (R → Option (List ℕ)) → LatchValue R → Self.Value
@@ -145,7 +147,7 @@ pub(crate) trait OneInput<A: Allocator> {
         → Fault
         → Type 0 };
 
-    /// Reads the input of this index.
+    /// Reads the input at this index.
     fn read_one<R: Read>(
         &self,
         alloc: &A,
@@ -158,13 +160,13 @@ pub(crate) trait OneInput<A: Allocator> {
         ensures rest { IsRest R.remaining input.old input.new }
         ensures err { IfErr result (cause self.now R R.remaining index input.old input.new) };
 
-    /// For the proof: that memory which runs out is a cause, whatever was read.
+    /// For the proof: running out of memory is a cause, whatever was read.
     fn starves<R: Read>(&self)
         ensures { (index : ℕ) (old new : LatchValue R) → IsRest R.remaining old new
             → cause self.now R R.remaining index old new Memory };
 }
 
-/// Reads each input, from left to right.
+/// Reads each input, from left to right, up to the first that fails.
 pub(crate) fn read_each<A: Allocator + Clone, I: OneInput<A>, R: Read>(
     one: &I,
     alloc: &A,

@@ -20,7 +20,7 @@ use std::alloc::Allocator;
 use std::io::{Read, Write};
 use text_check::Audible;
 
-/// Why a programme is not mixed.
+/// The fault of a command for that of a mix.
 pub(crate) fn refused_mix(fault: MixFault) -> CliFault
     ensures memory { fault ≡ mix.Memory → result ≡ CliFault.Memory }
     ensures other { fault ≢ mix.Memory → result ≡ CliFault.Mix fault }
@@ -31,7 +31,7 @@ pub(crate) fn refused_mix(fault: MixFault) -> CliFault
     }
 }
 
-/// Why a file is not written.
+/// The fault of a command for that of writing a file.
 pub(crate) fn refused_file(fault: BounceFault) -> CliFault
     ensures { result ≡ file_fault fault }
 {
@@ -42,7 +42,7 @@ pub(crate) fn refused_file(fault: BounceFault) -> CliFault
     }
 }
 
-// Writes the file of a session over these recordings.
+// Writes the file of a session rendered from these recordings.
 fn put_session<A: Allocator + Clone, W: Write>(
     alloc: A,
     session: &Session<A>,
@@ -65,15 +65,14 @@ fn put_session<A: Allocator + Clone, W: Write>(
     }
 }
 
-// What is read before a file is rendered: a session, and the recordings that its audible clips
-// play.
+// The inputs of a render: a session, and the recordings that its audible clips play.
 #[derive(Drop)]
 struct Material<A: Allocator> {
     session: Session<A>,
     kept: Vec<HashedFile<A>, A>,
 }
 
-// Reads logs and then recordings, of which those that are audible are kept.
+// Reads logs and then recordings, of which only the audible ones are kept.
 fn read_material<A: Allocator + Clone, R: Read>(
     alloc: &A,
     logs: &mut [Latch<R>],
@@ -97,16 +96,16 @@ fn read_material<A: Allocator + Clone, R: Read>(
     }
 }
 
-/// Writes the file of the session of the union of the logs' sets, played from the recordings, in a
-/// format and with a head, and nothing else. Of several recordings under one digest the first is
-/// played. The memory is that of the logs, and then of the session, of the recordings that are
-/// played, and of eight others.
+/// Writes the file of the session of the union of the logs, rendered from the recordings, in a
+/// format and with a head, and nothing else. If several recordings have one digest, the first is
+/// played. The memory is that of the logs, and after that of the session, of the recordings that
+/// are played, and of eight others.
 ///
 /// Errors, in this order: as `view_logs` up to `Merge`; `Read` (45) with the index of a recording's
-/// input, counted behind the logs, or `Source` (26 to 32) with the index of a recording that is no
-/// wave file, counted from 0, from left to right; `Mix` where the programme cannot be mixed or its
-/// file is too long (33 to 35); `Write` (37) where the output's latch has failed, which then holds
-/// a prefix of the file; `Memory` (0) where an allocation failed.
+/// input, counted after the logs, or `Source` (26 to 32) with the index of a recording that is not
+/// a wave file, counted from 0, from left to right; `Mix` if the programme cannot be mixed or its
+/// file is too long (33 to 35); `Write` (37) if the output's latch has failed (the output then
+/// holds a prefix of the file); `Memory` (0) if an allocation failed.
 pub fn bounce_logs<A: Allocator + Clone, R: Read, W: Write>(
     alloc: A,
     logs: &mut [Latch<R>],

@@ -1,4 +1,4 @@
-//! Taking operations of a log back.
+//! Taking back operations of a log.
 
 ghost use Rattle.std.specs.Prelude.{◌≡◌, length};
 ghost use Rattle.cli_calls.specs.Reading.{GaveOne, OneCause};
@@ -16,7 +16,7 @@ use std::alloc::Allocator;
 use std::io::{Read, Write};
 use text_revert::{RevertFault, revert_text};
 
-// The script that takes the operations of these stamps back.
+// Writes the script that takes back the operations of these stamps.
 #[derive(Drop)]
 struct Revert<'s> {
     stamps: &'s [Stamp],
@@ -41,13 +41,13 @@ impl<A: Allocator + Clone> Command<A, Log<A>> for Revert<'_> {
     }
 }
 
-/// Writes the script that takes the operations of these stamps of the log of the one input back,
-/// and nothing else: the text of `text_revert`.
+/// Writes the script that takes back the operations of these stamps in the one input's log, and
+/// nothing else: the text of `text_revert`.
 ///
-/// Errors, in this order: `Read` (45) where the input's latch has failed, or `Log` (11 to 16, 52)
-/// where its bytes are no log, each with index 0; `NoSuchItem` (21) with 0 where no operation of
-/// the log has one of the stamps; `Write` (37) where the output's latch has failed, which then
-/// holds a prefix of the text; `Memory` (0) where an allocation failed.
+/// Errors, in this order: `Read` (45) if the input's latch has failed, or `Log` (11 to 16, 52) if
+/// its bytes are not a log, each with index 0; `NoSuchItem` (21) with 0 if the log has no operation
+/// of one of the stamps; `Write` (37) if the output's latch has failed (the output then holds a
+/// prefix of the text); `Memory` (0) if an allocation failed.
 pub fn revert_log<A: Allocator + Clone, R: Read, W: Write>(
     alloc: A,
     stamps: &[Stamp],

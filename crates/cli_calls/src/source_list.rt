@@ -1,4 +1,4 @@
-//! Telling which recordings a log's session names.
+//! Listing the recordings that a log's session names.
 
 ghost use Rattle.std.specs.Prelude.{◌≡◌, ℕ, ◌+◌, List, map, length, IfOk};
 ghost use Rattle.mt_bwfread.specs.Wave.{fault_of};
@@ -23,7 +23,7 @@ use std::io::{Read, Write};
 use text_check::{Given, Listing, Recording, sources_text};
 use wave_header::WaveHeader;
 
-// What the file of this outline is.
+// The recording of the file of this outline, or why it is not a wave file.
 fn recording_of<A: Allocator>(header: &WaveHeader<A>) -> Result<Recording, WaveFault>
     ensures { (text : List ℕ) → IsWaveHeader text header.now → result
         ≡ recording_of text (fault_of text) }
@@ -39,7 +39,7 @@ fn recording_of<A: Allocator>(header: &WaveHeader<A>) -> Result<Recording, WaveF
     }
 }
 
-// An input that is a file beside a log, before which it is not counted.
+// An input that is a file after a log; its index does not count the log.
 struct FileInput;
 
 impl<A: Allocator + Clone> OneInput<A> for FileInput {
@@ -66,14 +66,14 @@ impl<A: Allocator + Clone> OneInput<A> for FileInput {
     fn starves<R: Read>(&self) {}
 }
 
-/// A log, and what files beside it are.
+/// A log, and the recordings of the files after it.
 #[derive(Drop)]
 pub(crate) struct Listed<A: Allocator> {
     log: Log<A>,
     recordings: Vec<Result<Recording, WaveFault>, A>,
 }
 
-// A log, and then files, of which no bytes are kept.
+// A log, and then files, whose bytes are not kept.
 struct LogThenFiles;
 
 impl<A: Allocator + Clone> Input<A> for LogThenFiles {
@@ -107,7 +107,7 @@ impl<A: Allocator + Clone> Input<A> for LogThenFiles {
     }
 }
 
-// Files under the names at their places.
+// Files, each with the name at its place.
 fn given_files<'n, A: Allocator>(
     alloc: A,
     names: &[&'n str],
@@ -126,7 +126,7 @@ fn given_files<'n, A: Allocator>(
     Ok(files)
 }
 
-// The text on the recordings of a log's session, and on files of these names.
+// Writes the text about the recordings of a log's session and the files of these names.
 #[derive(Drop)]
 struct SourceList<'n> {
     form: TextOptions,
@@ -157,16 +157,16 @@ impl<A: Allocator + Clone> Command<A, Listed<A>> for SourceList<'_> {
     }
 }
 
-/// Writes which recordings the clips of the session of the log of the first input name, and which
-/// of the files of the others these are, in one of the ways of `text_check` and in a form of lines.
-/// `names` are those of the files, as they are printed, one for each. The memory is that of the
-/// log, of its session and of the outline of one file at a time.
+/// Writes which recordings the clips of the session of the first input's log name, and which files
+/// of the other inputs these are, as this listing of `text_check` and in a form of lines. `names`
+/// are the printed names of the files, one for each. The memory is that of the log, of its session,
+/// and of the outline of one file at a time.
 ///
-/// Errors, in this order: `Read` (45) with index 0 where the first latch has failed, or `Log` (11
-/// to 16, 52) with index 0 where its bytes are no log; `Read` with the index of another input whose
-/// latch has failed; `Write` (37) where the output's latch has failed, which then holds a prefix of
-/// the text; `Memory` (0) where an allocation failed. A file that is no wave file is printed, and
-/// is no error.
+/// Errors, in this order: `Read` (45) with index 0 if the first latch has failed, or `Log` (11 to
+/// 16, 52) with index 0 if its bytes are not a log; `Read` with the index of another input whose
+/// latch has failed; `Write` (37) if the output's latch has failed (the output then holds a prefix
+/// of the text); `Memory` (0) if an allocation failed. A file that is not a wave file is listed as
+/// such and is not an error.
 pub fn list_sources<A: Allocator + Clone, R: Read, W: Write>(
     alloc: A,
     form: TextOptions,

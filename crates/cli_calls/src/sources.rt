@@ -26,15 +26,16 @@ use std::mem;
 use text_check::Audible;
 
 // How many recordings are held until they are hashed together and those that are not audible are
-// let go.
+// dropped.
 const GROUP: usize = 8;
 
-// The greatest room of a recording that is let go, in bytes, into which another one is read: so the
-// memory of a group of short ones is taken once, and that of a long one is given back.
+// The greatest capacity, in bytes, of a dropped recording's buffer that is reused for another
+// recording. So the memory for a group of short recordings is allocated once, and that of a long
+// one is freed.
 const ROOM: usize = 33_554_432;
 
-/// Reads the wave file of the recording of this index, which stands behind so many other inputs,
-/// into the room of a vector.
+/// Reads the wave file of the recording at this index into the memory of a vector. `others` is the
+/// number of inputs before the recordings.
 pub(crate) fn read_source<A: Allocator, R: Read>(
     room: Vec<u8, A>,
     others: usize,
@@ -73,7 +74,7 @@ fn digests_in<A: Allocator + Clone>(
     Ok(digests)
 }
 
-// Moves a recording behind what is kept, if it is audible, and in no more room than it needs.
+// Appends a recording to those that are kept, if it is audible, without spare capacity.
 fn keep_one<A: Allocator + Clone>(
     alloc: &A,
     audible: &Audible<A>,
@@ -95,7 +96,7 @@ fn keep_one<A: Allocator + Clone>(
     Ok(())
 }
 
-// Moves those recordings of these digests that are audible behind what is kept.
+// Appends the audible ones of the recordings with these digests to those that are kept.
 fn keep_each<A: Allocator + Clone>(
     alloc: &A,
     audible: &Audible<A>,
@@ -115,7 +116,7 @@ fn keep_each<A: Allocator + Clone>(
     Ok(())
 }
 
-// Leaves a group with nothing, and the room of its recordings for others, where that is not large.
+// Empties a group, and collects those buffers of its recordings that are not too large for reuse.
 fn make_room<A: Allocator>(
     group: &mut Vec<Vec<u8, A>, A>,
     rooms: &mut Vec<Vec<u8, A>, A>,
@@ -133,8 +134,8 @@ fn make_room<A: Allocator>(
     Ok(())
 }
 
-// Moves those recordings of a group that are audible behind what is kept, and lets the others go,
-// but for their room.
+// Appends the audible recordings of a group to those that are kept, and drops the others except for
+// their buffers.
 fn keep_group<A: Allocator + Clone>(
     alloc: &A,
     audible: &Audible<A>,
@@ -152,7 +153,8 @@ fn keep_group<A: Allocator + Clone>(
     Ok(())
 }
 
-// The same of a group that is whole; of another nothing.
+// Appends the audible recordings of a complete group, as `keep_group`; leaves any other group as it
+// is.
 fn keep_whole<A: Allocator + Clone>(
     alloc: &A,
     audible: &Audible<A>,
@@ -171,7 +173,7 @@ fn keep_whole<A: Allocator + Clone>(
     Ok(())
 }
 
-// Room that is there, or none yet.
+// A buffer to reuse, or an empty one.
 fn next_room<A: Allocator>(alloc: A, rooms: &mut Vec<Vec<u8, A>, A>) -> Vec<u8, A> {
     match rooms.pop() {
         Some(room) => room,
@@ -179,9 +181,9 @@ fn next_room<A: Allocator>(alloc: A, rooms: &mut Vec<Vec<u8, A>, A>) -> Vec<u8, 
     }
 }
 
-/// Reads the wave file of each recording, from left to right, and keeps those that are audible,
-/// each with its digest. They stand behind so many other inputs. In memory are at most eight at a
-/// time beside those that are kept, or room for eight of at most 32 MiB.
+/// Reads the wave file of each recording, from left to right, and keeps the audible ones, each with
+/// its digest. `others` is the number of inputs before the recordings. At most eight recordings are
+/// in memory in addition to those that are kept, or buffers for eight of at most 32 MiB each.
 pub(crate) fn read_audible<A: Allocator + Clone, R: Read>(
     alloc: A,
     others: usize,
@@ -208,8 +210,11 @@ pub(crate) fn read_audible<A: Allocator + Clone, R: Read>(
     Ok(kept)
 }
 
-/// Reads the wave file of each recording, from left to right, and keeps all of them, each with its
-/// digest. They stand behind so many other inputs.
+/// Reads the wave file of each recording, from left to right, and returns all of them, each with
+/// its digest. `others` is the number of inputs before the recordings. Errors, from left to right:
+/// `Read` (45) with the index of an input whose latch has failed, counted after the others;
+/// `Source` (26 to 32) with the index of a recording that is not a wave file, counted from 0;
+/// `Memory` (0) if an allocation failed.
 pub fn read_all_sources<A: Allocator + Clone, R: Read>(
     alloc: A,
     others: usize,
@@ -230,8 +235,8 @@ pub fn read_all_sources<A: Allocator + Clone, R: Read>(
     Ok(kept)
 }
 
-/// The recordings under their digests. Each was read as a wave file before, so that only memory
-/// refuses it.
+/// The catalogue of the recordings by their digests. Each was read as a wave file before, so the
+/// only error is that an allocation failed.
 pub fn catalogue_of<'a, A: Allocator + Clone>(
     alloc: A,
     kept: &'a [HashedFile<A>],

@@ -1,4 +1,4 @@
-//! Swapping operations in a conversation.
+//! Exchanging operations in a conversation.
 
 ghost use Rattle.std.specs.Prelude.{◌≡◌, true};
 ghost use Rattle.cli_calls.specs.Swapping.{lent_talk, Swapped};
@@ -11,15 +11,16 @@ use mt_sync::{OpStore, Side, converse};
 use std::alloc::{Allocator, Global};
 use std::io::{Read, Write};
 
-/// Swaps operations with the other end of a conversation, and writes the log that the holder, an
-/// editor or a log that grows, then has. `frames` is where the bytes of a frame that is not whole
-/// are kept.
+/// Exchanges operations with the other end of a conversation, and then writes the log of the
+/// holder, which is an editor or a log that takes operations. `frames` is the allocator for the
+/// bytes of an incomplete frame.
 ///
-/// Errors, in this order: `Sync` as `converse` is refused, with a writer (37) or reader (45) whose
-/// latch has failed, an input that ends before the conversation (49), or what stops it (38, 39, 40,
-/// 17 or 20); `Write` (37) where the output's latch has failed, which then holds a prefix of the
-/// log's text; `Memory` (0) where an allocation failed. Holder, reader and writer are as `converse`
-/// leaves them; where memory ran out after the conversation the holder may have failed.
+/// Errors, in this order: `Sync`, as the error of `converse`: a writer (37) or reader (45) whose
+/// latch has failed, an input that ends before the conversation (49), or what stops the
+/// conversation (38, 39, 40, 17 or 20); `Write` (37) if the output's latch has failed (the output
+/// then holds a prefix of the log's text); `Memory` (0) if an allocation failed. Holder, reader and
+/// writer are as `converse` leaves them; if memory ran out after the conversation, the holder may
+/// have failed.
 pub fn swap_log<A: Allocator + Clone, R: Read, W: Write, O: Write, H: OpStore<A>>(
     alloc: A,
     frames: Global,

@@ -16,7 +16,7 @@ use mt_sync::{LogBuilder, SyncFault, TalkFault, take_ops};
 use std::alloc::{Allocator, Global};
 use std::io::{Read, Write};
 
-/// Why a conversation stopped, or operations were not taken.
+/// The fault of a command for that of a conversation, or of taking operations.
 pub(crate) fn refused_sync(fault: SyncFault) -> CliFault
     ensures { result ≡ sync_fault fault }
 {
@@ -26,7 +26,7 @@ pub(crate) fn refused_sync(fault: SyncFault) -> CliFault
     }
 }
 
-/// A log with the operations that another editor sent.
+/// A log, extended with the operations that another editor sent.
 pub(crate) fn with_sent<A: Allocator + Clone>(
     alloc: A,
     frames: Global,
@@ -46,7 +46,7 @@ pub(crate) fn with_sent<A: Allocator + Clone>(
     }
 }
 
-// A log with the operations that another editor sent.
+// Writes a log extended with the operations that another editor sent.
 #[derive(Drop)]
 struct Take {
     frames: Global,
@@ -71,13 +71,13 @@ impl<A: Allocator + Clone> Command<A, LogAndBytes<A>> for Take {
     }
 }
 
-/// Writes the first input's log with the operations that the second input gives, frames of Ops up
-/// to Bye, and nothing else. What is there already is not taken again. `frames` is where the bytes
-/// of a frame that is not whole are kept.
+/// Writes the first input's log extended with the operations of the second input, frames of Ops up
+/// to Bye, and nothing else. Operations that the log has already are not added again. `frames` is
+/// the allocator for the bytes of an incomplete frame.
 ///
-/// Errors, in this order: as `lack_log` while reading; `Sync` where the second input's bytes are
-/// not taken, as `take_ops` refuses them (40, 38, 39, 17 or 49); `Write` (37) where the output's
-/// latch has failed, which then holds a prefix of the log's text; `Memory` (0) where an allocation
+/// Errors, in this order: as `lack_log` while reading; `Sync` if the second input's bytes are
+/// refused, as the error of `take_ops` (40, 38, 39, 17 or 49); `Write` (37) if the output's latch
+/// has failed (the output then holds a prefix of the log's text); `Memory` (0) if an allocation
 /// failed.
 pub fn take_log<A: Allocator + Clone, R: Read, W: Write>(
     alloc: A,

@@ -56,7 +56,7 @@ impl<A: Allocator + Clone> Input<A> for EachLog {
     }
 }
 
-/// The union of the logs; each operation moves.
+/// The union of the logs. Each operation is moved, not copied.
 pub(crate) fn join_all<A: Allocator + Clone>(
     alloc: &A,
     logs: Vec<Log<A>, A>,
@@ -71,7 +71,7 @@ pub(crate) fn join_all<A: Allocator + Clone>(
     }
 }
 
-/// The union of any number of logs: of none it is the log of no operation.
+/// The union of any number of logs; of no logs it is the empty log.
 pub(crate) struct UnionOfLogs;
 
 impl<A: Allocator + Clone> Input<A> for UnionOfLogs {

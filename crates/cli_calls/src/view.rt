@@ -31,7 +31,8 @@ fn put_session<A: Allocator, W: Write>(
     }
 }
 
-// Writes the text of a session in a form. What is as it is need not be made in memory.
+// Writes the text of a session in a form. Plain lines are written directly, without making the text
+// in memory.
 fn put_session_in<A: Allocator + Clone, W: Write>(
     alloc: A,
     form: TextOptions,
@@ -51,7 +52,7 @@ fn put_session_in<A: Allocator + Clone, W: Write>(
     }
 }
 
-// The text of a log's session, in a form.
+// Writes the text of a log's session, in a form.
 #[derive(Drop)]
 struct View {
     form: TextOptions,
@@ -77,10 +78,10 @@ impl<A: Allocator + Clone> Command<A, Log<A>> for View {
 /// Writes the text of the session of the union of the inputs' logs, and nothing else.
 ///
 /// Errors, in this order: `Read` (45) with the index of an input whose latch has failed, or `Log`
-/// (11 to 16, 52) with the index of one whose bytes are no log, from left to right; `Merge` (17)
-/// where a log has another operation under a dot than the logs before it, with the least such dot
-/// of the first such log; `Write` (37) where the output's latch has failed, which then holds a
-/// prefix of the text; `Memory` (0) where an allocation failed. Each input is read to its end, but
+/// (11 to 16, 52) with the index of one whose bytes are not a log, from left to right; `Merge` (17)
+/// if a log has another operation under a dot than the logs before it, with the least such dot of
+/// the first such log; `Write` (37) if the output's latch has failed (the output then holds a
+/// prefix of the text); `Memory` (0) if an allocation failed. Each input is read to its end, except
 /// for those after one at fault.
 pub fn view_logs<A: Allocator + Clone, R: Read, W: Write>(
     alloc: A,
@@ -97,7 +98,7 @@ pub fn view_logs<A: Allocator + Clone, R: Read, W: Write>(
     run(&UnionOfLogs, &view, alloc, inputs, output)
 }
 
-/// Writes the text of `view_logs` in a form: with times, as JSON objects, or as it is. Fails as
+/// Writes the text of `view_logs` in a form: with times, as JSON objects, or unchanged. Errors: as
 /// `view_logs`.
 pub fn view_logs_in<A: Allocator + Clone, R: Read, W: Write>(
     alloc: A,

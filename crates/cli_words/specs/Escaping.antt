@@ -1,5 +1,5 @@
--- How a text is written where some of its bytes would mean something else (profile): in a page of
--- the manual, and between single quotes of a shell's script.
+-- How a text is escaped if some of its bytes have another meaning (profile): in a manual page, and
+-- between single quotes in a shell's script.
 use Rattle.std.specs.Prelude.{ℕ, List, [], ◌∷◌, ◌==◌, codes, if◌then◌else◌}
 use Rattle.std.specs.List.{flat_map}
 use Rattle.cli_words.specs.declared.escape.Language.{Language}
@@ -11,8 +11,8 @@ backslash = 92
 abbrev pub single_quote : ℕ
 single_quote = 39
 
--- In roff `-` is a hyphen, a backslash begins an escape, a `.` or `'` at the head of a line a
--- request, and quotes are set as those of print.
+-- In roff `-` is a hyphen, a backslash begins an escape, a `.` or `'` at the head of a line begins
+-- a request, and quotes are set as in print.
 unfoldable pub roff_byte : ℕ → List ℕ
 roff_byte byte =
     if byte == 45 then backslash ∷ codes "-"
@@ -22,8 +22,8 @@ roff_byte byte =
     else if byte == 96 then backslash ∷ codes "(ga"
     else byte ∷ []
 
--- Between single quotes zsh ends at the next of them; its `_arguments` ends the text at a `:` or a
--- bracket, and reads these behind a backslash.
+-- In zsh a text between single quotes ends at the next single quote; its `_arguments` ends the text
+-- at a `:` or a bracket, unless a backslash is before it.
 unfoldable pub zsh_byte : ℕ → List ℕ
 zsh_byte byte =
     if byte == single_quote then single_quote ∷ backslash ∷ single_quote ∷ single_quote ∷ []
@@ -33,8 +33,8 @@ zsh_byte byte =
     else if byte == backslash then backslash ∷ backslash ∷ []
     else byte ∷ []
 
--- Between single quotes fish reads all as it stands but these quotes and a backslash, which stand
--- behind a backslash.
+-- Between single quotes fish reads every byte unchanged except a single quote and a backslash,
+-- which need a backslash before them.
 unfoldable pub fish_byte : ℕ → List ℕ
 fish_byte byte =
     if byte == single_quote then backslash ∷ single_quote ∷ []

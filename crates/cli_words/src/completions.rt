@@ -1,4 +1,4 @@
-//! Scripts by which a shell completes the words of a command line.
+//! Scripts by which a shell completes a command line.
 
 mod bash;
 mod fish;
@@ -17,20 +17,20 @@ pub enum Shell {
     Fish,
 }
 
-// A part of a script that has a piece of each command.
+// A part of a script with a piece for each command.
 #[derive(Clone, Copy)]
 enum Part {
     /// The command's name.
     Name(Shell),
-    /// Its words.
+    /// The command's words.
     Words(Shell),
-    /// Those of its options that have a value.
+    /// The command's options that have a value.
     Valued,
-    /// The names of the commands below it.
+    /// The names of the command's subcommands.
     Below,
 }
 
-// Puts a command's piece of a part.
+// Puts the piece of a part for a command.
 fn put_piece<W: Write>(script: &mut BufferedLatch<'_, W>, part: Part, command: &Words) {
     match part {
         Part::Name(Shell::Bash) => bash::put_name(script, command),
@@ -44,7 +44,8 @@ fn put_piece<W: Write>(script: &mut BufferedLatch<'_, W>, part: Part, command: &
     }
 }
 
-// Puts the pieces of the commands below one, which stand behind its own; zsh has them in it.
+// Puts the pieces for the subcommands of a command, after its own piece; those of zsh are in that
+// piece.
 fn put_below<W: Write>(script: &mut BufferedLatch<'_, W>, part: Part, command: &Words) {
     for below in command.below {
         match part {
@@ -57,7 +58,7 @@ fn put_below<W: Write>(script: &mut BufferedLatch<'_, W>, part: Part, command: &
     }
 }
 
-// Puts the pieces of the commands of a list.
+// Puts the pieces for the commands of a list.
 fn put_list<W: Write>(script: &mut BufferedLatch<'_, W>, part: Part, list: &[Words]) {
     for command in list {
         put_piece(script, part, command);
@@ -72,7 +73,7 @@ fn put_part<W: Write>(script: &mut BufferedLatch<'_, W>, part: Part, lists: &Lis
     }
 }
 
-// Puts the names of options, each behind a space and two dashes: of all of them, or of those that
+// Puts the names of options, each after a space and two dashes: all of them, or only those that
 // have a value.
 fn put_options<W: Write>(script: &mut BufferedLatch<'_, W>, valued: bool, words: &[Word]) {
     for word in words {
@@ -83,7 +84,7 @@ fn put_options<W: Write>(script: &mut BufferedLatch<'_, W>, valued: bool, words:
     }
 }
 
-// Puts names, each behind a space.
+// Puts names, each after a space.
 fn put_names<W: Write>(script: &mut BufferedLatch<'_, W>, names: &[&str]) {
     for name in names {
         script.put(b" ");
@@ -91,19 +92,19 @@ fn put_names<W: Write>(script: &mut BufferedLatch<'_, W>, names: &[&str]) {
     }
 }
 
-// Puts the names of commands, each behind a space.
+// Puts the names of commands, each after a space.
 fn put_command_names<W: Write>(script: &mut BufferedLatch<'_, W>, commands: &[Words]) {
     for command in commands {
         put_names(script, &[command.name]);
     }
 }
 
-// Whether a word is an option that has a value.
+// Whether one of these words is an option with a value.
 fn is_valued(words: &[Word]) -> bool {
     words.iter().any(|word| !word.value().is_empty())
 }
 
-// The place of what stands behind a word at this place; an option has none.
+// The place of the next word after a word at this place; an option takes no place.
 fn place_behind(place: u64, word: &Word) -> u64 {
     if word.is_option() {
         place
@@ -119,7 +120,8 @@ fn put_quoted<W: Write>(script: &mut BufferedLatch<'_, W>, language: Language, t
     script.put(b"'");
 }
 
-/// Writes the script of a shell.
+/// Writes the completion script for a shell. Errors: `Write` (37) if the output's latch has failed
+/// (the output then holds a prefix of the text).
 pub fn put_script<W: Write>(
     shell: Shell,
     lists: &Lists,

@@ -1,4 +1,4 @@
-//! Texts in a language in which some of their bytes would mean something else.
+//! Escaping texts for languages in which some of their bytes have another meaning.
 
 ghost use Rattle.base_io.specs.Buffered.{Puts};
 ghost use Rattle.cli_words.specs.Escaping.{roff_byte, zsh_byte, fish_byte, escaped_byte, escaped};
@@ -6,10 +6,10 @@ ghost use Rattle.cli_words.specs.Escaping.{roff_byte, zsh_byte, fish_byte, escap
 use base_io::BufferedLatch;
 use std::io::Write;
 
-/// What a text is written in.
+/// The language in which a text is written.
 #[derive(Clone, Copy)]
 pub(crate) enum Language {
-    /// A page of the manual.
+    /// A manual page.
     Roff,
     /// Between single quotes, for `_arguments` of zsh.
     Zsh,
@@ -67,7 +67,7 @@ fn put_byte<W: Write>(output: &mut BufferedLatch<'_, W>, language: Language, byt
     }
 }
 
-/// Puts a text, which the language reads as this text.
+/// Puts a text escaped, so that the language reads it as this text.
 #[tactic(auto, using(base_io::proofs::Putting::puts_none))]
 pub(crate) fn put_escaped<W: Write>(
     output: &mut BufferedLatch<'_, W>,

@@ -1,7 +1,7 @@
-//! The words of a command line, as data: what the parser takes of them, and the manual page and the
-//! completion scripts that are made of them.
+//! The words of a command line, as data: for the parser, and for the manual page and the completion
+//! scripts that are made from them.
 //!
-//! A command is declared once, as [`Words`]; one may have others below it, as `archive add`:
+//! A command is declared once, as [`Words`]; it may have subcommands, as in `archive add`:
 //!
 //! ```rust
 //! use cli_words::{Lists, Words, put_page};

@@ -1,4 +1,4 @@
-//! The page of the manual, in roff.
+//! The manual page, in roff.
 
 use crate::escape::{Language, put_escaped};
 use crate::words::{ABOUT, ArgKind, HELP, HELP_COMMAND, Lists, NUMBER, VERSION, WHY, Word, Words};
@@ -34,15 +34,15 @@ Wrong command line: standard error has the parser\\(aqs text.
 .SH EXAMPLES
 ";
 
-// A part of the page that has a piece of each command.
+// A part of the page with a piece for each command.
 #[derive(Clone, Copy)]
 enum Part {
     Words,
     Example,
 }
 
-// The words by which the paragraphs behind the words of a command's help begin that have a section
-// of their own.
+// The beginnings of those paragraphs of a command's `after` text that have a separate section in
+// the page.
 const EXAMPLE: &str = "Example: ";
 
 const EXIT: &str = "Exit status: ";
@@ -52,7 +52,7 @@ fn put_text<W: Write>(page: &mut BufferedLatch<'_, W>, text: &str) {
     put_escaped(page, Language::Roff, text.as_bytes());
 }
 
-// Puts a line of a text. One that is indented, and one behind such a line, stands for itself.
+// Puts a line of a text. An indented line, and a line after one, begins on a new line.
 fn put_line<W: Write>(page: &mut BufferedLatch<'_, W>, stands_alone: bool, line: &str) {
     if stands_alone {
         page.put(b".br\n");
@@ -71,7 +71,7 @@ fn put_lines<W: Write>(page: &mut BufferedLatch<'_, W>, paragraph: &str) {
     }
 }
 
-// Puts a paragraph behind the words of a command's help, unless it has a section of its own.
+// Puts a paragraph of a command's `after` text, unless it has a separate section.
 fn put_paragraph<W: Write>(page: &mut BufferedLatch<'_, W>, paragraph: &str) {
     if paragraph.starts_with(EXAMPLE) || paragraph.starts_with(EXIT) {
         return;
@@ -80,14 +80,14 @@ fn put_paragraph<W: Write>(page: &mut BufferedLatch<'_, W>, paragraph: &str) {
     put_lines(page, paragraph);
 }
 
-// Puts what stands behind the words of a command's help.
+// Puts the `after` text of a command's help.
 fn put_after<W: Write>(page: &mut BufferedLatch<'_, W>, after: &str) {
     for paragraph in after.split("\n\n") {
         put_paragraph(page, paragraph);
     }
 }
 
-// Puts a word of a command's line, if it is no option.
+// Puts a word of a command's line, unless it is an option.
 fn put_place<W: Write>(page: &mut BufferedLatch<'_, W>, word: &Word) {
     let (front, behind) = match word.shape() {
         ArgKind::One => (" ", ""),
@@ -108,7 +108,7 @@ fn put_places<W: Write>(page: &mut BufferedLatch<'_, W>, words: &[Word]) {
     }
 }
 
-// Puts the names of which a word is one, behind another.
+// Puts further possible values of a word, after the first one.
 fn put_others<W: Write>(page: &mut BufferedLatch<'_, W>, names: &[&str]) {
     for name in names {
         page.put(b", ");
@@ -116,7 +116,7 @@ fn put_others<W: Write>(page: &mut BufferedLatch<'_, W>, names: &[&str]) {
     }
 }
 
-// Puts how a word is written.
+// Puts a word as it is written on the command line.
 fn put_word<W: Write>(page: &mut BufferedLatch<'_, W>, word: &Word) {
     if !word.is_option() {
         page.put(b"\\fI");
@@ -135,7 +135,7 @@ fn put_word<W: Write>(page: &mut BufferedLatch<'_, W>, word: &Word) {
     page.put(b"\n");
 }
 
-// Puts what may stand for a word, and what stands for it where it is not said.
+// Puts the possible values of a word, and its default value.
 fn put_values<W: Write>(page: &mut BufferedLatch<'_, W>, word: &Word) {
     if let [first, others @ ..] = word.names() {
         page.put(b" [possible values: ");
@@ -150,7 +150,7 @@ fn put_values<W: Write>(page: &mut BufferedLatch<'_, W>, word: &Word) {
     }
 }
 
-// Puts each word, and what its help says.
+// Puts each word, with its help.
 fn put_words<W: Write>(page: &mut BufferedLatch<'_, W>, words: &[Word]) {
     for word in words {
         page.put(b".TP\n");
@@ -161,7 +161,7 @@ fn put_words<W: Write>(page: &mut BufferedLatch<'_, W>, words: &[Word]) {
     }
 }
 
-// Puts a command: its line, what it does, its words, and what is said of it behind them.
+// Puts a command: its line, its purpose, its words, and its `after` text.
 fn put_command<W: Write>(page: &mut BufferedLatch<'_, W>, above: &str, command: &Words) {
     page.put(b".SS radio ");
     command.put_name(page, above);
@@ -177,7 +177,7 @@ fn put_command<W: Write>(page: &mut BufferedLatch<'_, W>, above: &str, command: 
     put_after(page, command.after);
 }
 
-// Puts the example of a command, and what the command does.
+// Puts the example of a command, and its purpose.
 fn put_example<W: Write>(page: &mut BufferedLatch<'_, W>, command: &Words) {
     let Some(behind) = command.after.strip_prefix(EXAMPLE) else {
         return;
@@ -193,7 +193,7 @@ fn put_example<W: Write>(page: &mut BufferedLatch<'_, W>, command: &Words) {
     page.put(b".\n");
 }
 
-// Puts a command's piece of a part.
+// Puts the piece of a part for a command.
 fn put_piece<W: Write>(page: &mut BufferedLatch<'_, W>, part: Part, above: &str, command: &Words) {
     match part {
         Part::Words => put_command(page, above, command),
@@ -201,14 +201,14 @@ fn put_piece<W: Write>(page: &mut BufferedLatch<'_, W>, part: Part, above: &str,
     }
 }
 
-// Puts the pieces of the commands below one.
+// Puts the pieces for the subcommands of a command.
 fn put_below<W: Write>(page: &mut BufferedLatch<'_, W>, part: Part, command: &Words) {
     for below in command.below {
         put_piece(page, part, command.name, below);
     }
 }
 
-// Puts the pieces of the commands of a list, and of those below them.
+// Puts the pieces for the commands of a list, and for their subcommands.
 fn put_list<W: Write>(page: &mut BufferedLatch<'_, W>, part: Part, list: &[Words]) {
     for command in list {
         put_piece(page, part, "", command);
@@ -223,7 +223,7 @@ fn put_part<W: Write>(page: &mut BufferedLatch<'_, W>, part: Part, lists: &Lists
     }
 }
 
-// Puts the page.
+// Puts the whole page.
 fn put_all<W: Write>(page: &mut BufferedLatch<'_, W>, lists: &Lists) {
     page.put(b".TH RADIO 1 \"\" \"radio ");
     put_text(page, NUMBER);
@@ -238,7 +238,8 @@ fn put_all<W: Write>(page: &mut BufferedLatch<'_, W>, lists: &Lists) {
     put_part(page, Part::Example, lists);
 }
 
-/// Writes the page of all commands.
+/// Writes the manual page with all commands. Errors: `Write` (37) if the output's latch has failed
+/// (the output then holds a prefix of the text).
 pub fn put_page<W: Write>(lists: &Lists, output: &mut Latch<W>) -> Result<(), LatchFault> {
     let mut page = BufferedLatch::new(output);
     put_all(&mut page, lists);

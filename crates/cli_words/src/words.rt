@@ -1,4 +1,4 @@
-//! The words of commands, as data, and what the parser takes of them.
+//! The words of commands, as data, and the parser's arguments for them.
 
 use base_io::BufferedLatch;
 use clap::builder::ValueParser;
@@ -6,50 +6,50 @@ use clap::{Arg, ArgAction, Command};
 use std::alloc::{AllocError, Global};
 use std::io::Write;
 
-/// All commands, in the lists in which help has them one after another.
+/// All commands, in lists, in the order in which help prints them.
 pub type Lists = [&'static [Words]; 4];
 
-/// What the program is, and its version's number.
+/// The description of the program, and the number of its version.
 pub const ABOUT: &str = "A nondestructive multitrack audio editor whose sessions are replicated";
 
 pub const NUMBER: &str = "0.1.0";
 
-/// What a command is called with, and what its help says.
+/// A command: its words, and the texts of its help.
 pub struct Words {
     pub name: &'static str,
-    /// What it does.
+    /// What the command does.
     pub about: &'static str,
-    /// What stands behind the list of its words: an example, and the exit statuses.
+    /// The text after the list of its words in help: an example, and the exit statuses.
     pub after: &'static str,
     pub words: &'static [Word],
-    /// The commands below it, one of which has to follow its name; none of most.
+    /// Its subcommands, one of which has to follow its name; most commands have none.
     pub below: &'static [Words],
 }
 
-/// A word of a command, or any number of them, and what its help says.
+/// A word of a command, or a place for any number of words, and the text of its help.
 pub enum Word {
-    /// One that has to be there.
+    /// A required word.
     Needed {
         name: &'static str,
         help: &'static str,
     },
-    /// One of these names, which has to be there.
+    /// A required word that is one of these names.
     OneOf {
         name: &'static str,
         names: &'static [&'static str],
         help: &'static str,
     },
-    /// As many as are named, or none.
+    /// Any number of words, possibly none.
     Any {
         name: &'static str,
         help: &'static str,
     },
-    /// As many as are named, of which there has to be one.
+    /// One or more words.
     Many {
         name: &'static str,
         help: &'static str,
     },
-    /// A number that may be left out.
+    /// An optional number.
     Number {
         name: &'static str,
         greatest: u64,
@@ -68,26 +68,25 @@ pub enum Word {
         greatest: u64,
         help: &'static str,
     },
-    /// An option with a number, which may be left out and then has none.
+    /// An option with a number; without the option there is no number.
     Limit {
         name: &'static str,
         least: u64,
         greatest: u64,
         help: &'static str,
     },
-    /// An option with the name of a file, as often as one likes, beside another option that has to
-    /// be there then.
+    /// An option with the name of a file, which may be repeated. It requires the option `needs`.
     Files {
         name: &'static str,
         needs: &'static str,
         help: &'static str,
     },
-    /// An option that is there or not.
+    /// An option without a value.
     Flag {
         name: &'static str,
         help: &'static str,
     },
-    /// An option that is there or not, and not beside some others.
+    /// An option without a value that conflicts with some others.
     Choice {
         name: &'static str,
         others: &'static [&'static str],
@@ -96,7 +95,7 @@ pub enum Word {
 }
 
 impl Words {
-    /// Puts the name, behind those of the commands above it.
+    /// Puts the name, after that of the command above it, if there is one.
     pub(crate) fn put_name<W: Write>(&self, output: &mut BufferedLatch<'_, W>, above: &str) {
         output.put(above.as_bytes());
         if !above.is_empty() {
@@ -106,21 +105,21 @@ impl Words {
     }
 }
 
-/// Whether one of these commands has others below it.
+/// Whether one of these commands has subcommands.
 pub(crate) fn has_below(lists: &Lists) -> bool {
     lists
         .iter()
         .any(|list| list.iter().any(|words| !words.below.is_empty()))
 }
 
-/// How a word is written.
+/// How a word is written on the command line.
 #[derive(Clone, Copy, PartialEq, Eq)]
 pub enum ArgKind {
-    /// One that has to be there, at its place among those that are no options.
+    /// A required word, at its place among those that are not options.
     One,
-    /// One that may be left out.
+    /// An optional word.
     Optional,
-    /// Any number of them, or none.
+    /// Any number of words, possibly none.
     Any,
     /// One or more.
     Many,
@@ -131,7 +130,7 @@ pub enum ArgKind {
 }
 
 impl Word {
-    /// What it is called; of an option this stands behind two dashes.
+    /// The word's name; for an option, without the two dashes before it.
     pub fn name(&self) -> &'static str {
         match self {
             Word::Needed { name, .. } => name,
@@ -148,7 +147,7 @@ impl Word {
         }
     }
 
-    /// What its help says.
+    /// The text of its help.
     pub fn help(&self) -> &'static str {
         match self {
             Word::Needed { help, .. } => help,
@@ -165,7 +164,7 @@ impl Word {
         }
     }
 
-    /// How it is written.
+    /// How the word is written.
     pub fn shape(&self) -> ArgKind {
         match self {
             Word::Needed { .. } => ArgKind::One,
@@ -182,12 +181,12 @@ impl Word {
         }
     }
 
-    /// Whether it is an option.
+    /// Whether the word is an option.
     pub fn is_option(&self) -> bool {
         matches!(self.shape(), ArgKind::Flag | ArgKind::Valued)
     }
 
-    /// What stands for its value; nothing of one that has none.
+    /// The placeholder for its value in help; empty if it has no value.
     pub fn value(&self) -> &'static str {
         match self {
             Word::Text { .. } => "TEXT",
@@ -198,7 +197,7 @@ impl Word {
         }
     }
 
-    /// The value that it has where it is not said; nothing of one that has none.
+    /// The default value; empty if it has none.
     pub fn default(&self) -> &'static str {
         match self {
             Word::Text { default, .. } => default,
@@ -207,7 +206,7 @@ impl Word {
         }
     }
 
-    /// The names of which it is one; none where it is any text.
+    /// The names of which the word must be one; empty if any text is accepted.
     pub fn names(&self) -> &'static [&'static str] {
         match self {
             Word::OneOf { names, .. } => names,
@@ -216,25 +215,25 @@ impl Word {
     }
 }
 
-/// OUT may not be there yet.
+/// OUT must not exist yet.
 pub const NEW: Word = Word::Flag {
     name: "new",
     help: "Fail (37) if OUT exists",
 };
 
-/// OUT need not be on the disk when the command is done.
+/// OUT need not be on the disk when the command ends.
 pub const NO_SYNC: Word = Word::Flag {
     name: "no-sync",
     help: "Do not wait until OUT is on the disk: faster, but lost if the machine stops",
 };
 
-/// The option of all commands, before or behind their names.
+/// The option of all commands, before or after their names.
 pub const WHY: Word = Word::Flag {
     name: "why",
     help: "After an error, print its cause on one more line",
 };
 
-/// The options that the parser adds: to all commands, and to the program alone.
+/// The options that the parser adds: to all commands, and to the program only.
 pub const HELP: Word = Word::Flag {
     name: "help",
     help: "Print help",
@@ -257,13 +256,13 @@ pub const HELP_COMMAND: Words = Words {
     below: &[],
 };
 
-/// Positions and lengths are told as times.
+/// Positions and lengths are printed as times.
 pub const AS_TIMES: Word = Word::Flag {
     name: "time",
     help: "Print positions and lengths as H:MM:SS.mmm, at --rate frames a second",
 };
 
-/// At how many frames a second times are told or read.
+/// The frames per second for times that are printed or read.
 pub const TIMES_RATE: Word = Word::Limit {
     name: "rate",
     least: 1,
@@ -271,13 +270,13 @@ pub const TIMES_RATE: Word = Word::Limit {
     help: "Frames a second for --time, 1 to 384000 (default: 48000)",
 };
 
-/// Lines are told as JSON.
+/// Lines are printed as JSON.
 pub const AS_JSON: Word = Word::Flag {
     name: "json",
     help: "Print each line as a JSON object",
 };
 
-/// How long is waited for the other end.
+/// How long to wait for the other end.
 pub const WAIT: Word = Word::Limit {
     name: "wait",
     least: 1,
@@ -293,13 +292,13 @@ fn command_of<'a>(alloc: Global, words: &Words) -> Result<Command<'a>, AllocErro
     with_plain(alloc, command.subcommand_required(true), words.below)
 }
 
-// A command without those below it.
+// A command without its subcommands.
 fn plain_command_of<'a>(alloc: Global, words: &Words) -> Result<Command<'a>, AllocError> {
     let command = bare(alloc, words.name, words.about, words.after);
     with_words(alloc, command, words.words)?.arg(why_flag(alloc))
 }
 
-// A command with these below it, which have none.
+// A command with these subcommands, which have none themselves.
 fn with_plain<'a>(
     alloc: Global,
     command: Command<'a>,
@@ -312,7 +311,7 @@ fn with_plain<'a>(
     Ok(command)
 }
 
-/// A command with no words.
+/// A command without words.
 pub fn bare<'a>(alloc: Global, name: &'a str, about: &'a str, after: &'a str) -> Command<'a> {
     Command::new(alloc, name).about(about).after_help(after)
 }
@@ -329,7 +328,7 @@ fn with_words<'a>(
     Ok(command)
 }
 
-/// A command with all of these below it.
+/// A command with all of these subcommands, and theirs. Fails if an allocation fails.
 pub fn with_all<'a>(
     alloc: Global,
     command: Command<'a>,
@@ -361,7 +360,7 @@ fn word_of<'a>(alloc: Global, word: &Word) -> Result<Arg<'a>, AllocError> {
     }
 }
 
-// A word that may stand beside all others.
+// The argument of a word, which may be combined with all others.
 fn free_word_of<'a>(alloc: Global, word: &Word) -> Arg<'a> {
     match word {
         Word::Needed { name, help } => needed(alloc, name, help),
@@ -470,7 +469,7 @@ fn files<'a>(alloc: Global, name: &'a str, help: &'a str) -> Arg<'a> {
         .help(help)
 }
 
-/// The option of all commands.
+/// The parser's argument for `--why`, the option of all commands.
 pub fn why_flag<'a>(alloc: Global) -> Arg<'a> {
     free_word_of(alloc, &WHY)
 }

@@ -1,4 +1,4 @@
--- Working words: what stops the program without any command.
+-- Working definition: the exits of the program without any command.
 use Rattle.std.specs.Prelude.{◌≡◌, true}
 use Rattle.mt_cli.specs.declared.stop.Exit.{Exit}
 use Rattle.mt_cli.specs.declared.stop.Exit.TheVariants.{Refused, Told}

@@ -1,20 +1,20 @@
-//! The log that a command reads and whose name it gives to what it writes.
+//! A log that a command reads and also replaces.
 
 use cli_calls::CliFault;
 use std::fs::{self, File};
 use std::os::unix::fs::MetadataExt;
 use std::rt::Files;
 
-/// The file of a log that was read, where it is OUT: what is written stands in for this file, and
-/// for no other.
+/// The file of a log that was read and that OUT names too: the written file may replace this file,
+/// and no other.
 #[derive(Drop)]
 pub(crate) struct ReplaceGuard {
     log: File,
 }
 
 impl ReplaceGuard {
-    /// The file of a log that was opened by its name, where OUT names it too: by the same text, or
-    /// as the same file. Refused as `Write` where the system gives no second handle of it.
+    /// The file of a log that was opened by its name, if OUT names it too: by the same text, or as
+    /// the same file. Error: `Write` if the system gives no second handle of it.
     pub(crate) fn of<F: Files<File = File>>(
         rt: &F,
         log: &File,
@@ -30,9 +30,9 @@ impl ReplaceGuard {
         }
     }
 
-    /// Gives a part the name OUT, if OUT is still this file: under its lock, so that of two
-    /// programs which began with one log one is done, and the other is not. Answers whether it was
-    /// given.
+    /// Renames a part to OUT, if OUT is still this file. This is done under the file's lock, so
+    /// that of two programs that began with one log one succeeds and the other fails. Returns
+    /// whether the part was renamed.
     pub(crate) fn rename_if_same<F: Files<File = File>>(
         &self,
         rt: &F,
@@ -48,7 +48,7 @@ impl ReplaceGuard {
     }
 }
 
-// Whether a name is that of an open file.
+// Whether a name names an open file.
 fn is_named<F: Files<File = File>>(rt: &F, file: &File, name: &str) -> bool {
     match (file.metadata(), fs::metadata(rt, name)) {
         (Ok(own), Ok(there)) => own.dev() == there.dev() && own.ino() == there.ino(),

@@ -1,4 +1,4 @@
-//! The commands, a file each: its words, and what it runs.
+//! The commands, a file each: a command's words, and what it runs.
 
 ghost use Rattle.std.specs.Prelude.{◌≡◌, ◌+◌, length, IfOk};
 
@@ -54,7 +54,7 @@ fn log_and_others<'n>(
     Ok(names)
 }
 
-// At how many frames a second times are told or read, where these words ask for times.
+// The frames per second for times, if these words request times.
 fn rate_of_times(words: &ArgMatches<'_>) -> Option<u32> {
     if !words.get_flag("time") {
         return None;
@@ -62,7 +62,7 @@ fn rate_of_times(words: &ArgMatches<'_>) -> Option<u32> {
     Some(words.get_one::<u32>("rate").unwrap_or(48_000))
 }
 
-// The memory in which objects are made, where these words ask for them.
+// The allocator for JSON objects, if these words request them.
 fn memory_of_objects(alloc: Global, words: &ArgMatches<'_>) -> Option<Global> {
     if !words.get_flag("json") {
         return None;
@@ -70,7 +70,7 @@ fn memory_of_objects(alloc: Global, words: &ArgMatches<'_>) -> Option<Global> {
     Some(alloc)
 }
 
-// The form of lines that these words ask for.
+// The form of lines that these words request.
 fn form_of(alloc: Global, words: &ArgMatches<'_>) -> TextOptions {
     TextOptions {
         rate: rate_of_times(words),
@@ -78,7 +78,7 @@ fn form_of(alloc: Global, words: &ArgMatches<'_>) -> TextOptions {
     }
 }
 
-// The log in a file, which is to grow, and the file where it is OUT.
+// The log of a file, to which operations will be added, and its file if that is OUT.
 #[derive(Drop)]
 struct OpenGrowing {
     growing: LogBuilder,
@@ -95,7 +95,7 @@ fn open_growing<F: Files<File = File> + AllocGlobal>(
     Ok(OpenGrowing { growing, base })
 }
 
-// How long is waited for the other end, where that is said.
+// How long to wait for the other end, if the words limit it.
 fn wait_of(words: &ArgMatches<'_>) -> Option<Duration> {
     match words.get_one::<u64>("wait") {
         Some(seconds) => Some(Duration::from_secs(seconds)),
@@ -103,7 +103,8 @@ fn wait_of(words: &ArgMatches<'_>) -> Option<Duration> {
     }
 }
 
-// Has reads and writes of a stream fail where the other end says or takes nothing for so long.
+// Sets the time after which reads and writes of a stream fail if the other end sends or takes
+// nothing.
 fn limit<S: OpenStream>(stream: &S, wait: Option<Duration>) -> Result<(), CliFault> {
     if wait.is_none() {
         return Ok(());
@@ -117,8 +118,8 @@ fn limit<S: OpenStream>(stream: &S, wait: Option<Duration>) -> Result<(), CliFau
     }
 }
 
-// Swaps operations with the other end of a stream, which is read and written by two handles of it,
-// and writes the log that has grown into a file.
+// Exchanges operations with the other end of a stream, which is read and written through two
+// handles, and writes the extended log into a file.
 fn swap<F: Files<File = File> + AllocGlobal, S: Read + Write + OpenStream + Drop>(
     rt: &F,
     opened: OpenGrowing,
@@ -135,7 +136,7 @@ fn swap<F: Files<File = File> + AllocGlobal, S: Read + Write + OpenStream + Drop
     let mut reader = Latch::new(stream);
     let mut writer = Latch::new(other);
     let mut part = Part::later(alloc, rt, out, naming)?;
-    // for the proof: that the log lies there as one, as it was read
+    // for the proof: the log is stored as one log, as it was read
     let Ok(()) = growing.compact() else {
         return Err(CliFault::Memory);
     };

@@ -9,7 +9,7 @@ use std::fs::{self, File};
 use std::io::{self, ErrorKind, Read};
 use std::rt::Files;
 
-/// Opens the files from left to right; so many inputs are counted before them.
+/// Opens the files from left to right. `others` is the number of inputs before them.
 pub(crate) fn open_all<F: Files + AllocGlobal>(
     rt: &F,
     others: usize,
@@ -24,7 +24,8 @@ pub(crate) fn open_all<F: Files + AllocGlobal>(
     Ok(files)
 }
 
-/// Opens the file of this index. One that cannot be opened is refused as one that cannot be read.
+/// Opens the file at this index. Error: `Read` (45) with the index if it cannot be opened, as for a
+/// file that cannot be read.
 pub(crate) fn open<F: Files + AllocGlobal>(
     rt: &F,
     index: usize,
@@ -36,8 +37,8 @@ pub(crate) fn open<F: Files + AllocGlobal>(
     }
 }
 
-/// A file that is opened where it is first read, and closed at its end: so as many can be read, one
-/// after another, as there are. One that cannot be opened is one that cannot be read.
+/// A file that is opened when it is first read, and closed at its end, so that any number of files
+/// can be read one after another. If it cannot be opened, reading it fails.
 #[derive(Drop)]
 pub(crate) struct LazyFile<'r, 'n, F: Files> {
     rt: &'r F,
@@ -77,7 +78,7 @@ impl<F: Files> Read for LazyFile<'_, '_, F> {
     }
 }
 
-/// A reader in a latch, as a reader.
+/// A reader that reads from a latch.
 #[derive(Drop)]
 pub(crate) struct InLatch<'l, R> {
     latch: &'l mut Latch<R>,
@@ -92,12 +93,13 @@ impl<R: Read> Read for InLatch<'_, R> {
     }
 }
 
-/// A latch round a reader that is in one: so standard input stands among other inputs.
+/// A latch around a reader that is already in a latch, so that standard input can be one of several
+/// inputs.
 pub(crate) fn in_latch<R: Read>(latch: &mut Latch<R>) -> Latch<InLatch<'_, R>> {
     Latch::new(InLatch { latch })
 }
 
-/// Files that are opened where they are first read, from left to right.
+/// Files that are opened when they are first read, from left to right.
 pub(crate) fn lazy_files<'r, 'n, F: Files + AllocGlobal>(
     rt: &'r F,
     names: &[&'n str],
@@ -111,14 +113,14 @@ pub(crate) fn lazy_files<'r, 'n, F: Files + AllocGlobal>(
     Ok(files)
 }
 
-/// The file of a log, and beside it the same, where it is OUT.
+/// The file of a log, and a second handle of it if it is OUT.
 #[derive(Drop)]
 pub(crate) struct OpenLog {
     pub(crate) log: Latch<File>,
     pub(crate) base: Option<ReplaceGuard>,
 }
 
-/// Opens the log of this index, which OUT may name as well.
+/// Opens the log at this index, which OUT may name too.
 pub(crate) fn open_log<F: Files<File = File>>(
     rt: &F,
     index: usize,
@@ -135,14 +137,14 @@ pub(crate) fn open_log<F: Files<File = File>>(
     })
 }
 
-/// The files of logs, and beside them the one that is OUT, if one is.
+/// The files of logs, and a second handle of the one that is OUT, if one is.
 #[derive(Drop)]
 pub(crate) struct OpenLogs {
     pub(crate) logs: Vec<Latch<File>>,
     pub(crate) base: Option<ReplaceGuard>,
 }
 
-/// Opens the logs from left to right, one of which OUT may name as well.
+/// Opens the logs from left to right, one of which OUT may name too.
 pub(crate) fn open_logs<F: Files<File = File> + AllocGlobal>(
     rt: &F,
     names: &[&str],

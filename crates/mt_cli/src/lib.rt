@@ -3,7 +3,7 @@
 //! `view_logs`, `list_logs`, `draw_logs`, `merge_logs`, `pull_logs`, `list_sources`, `find_items`,
 //! `diff_logs`, `lay_files`, `revert_log`, `check_log`, `bounce_logs`, `info_file`, `write_info`,
 //! `write_header`, `edit_log`, `have_log`, `lack_log`, `take_log` and `swap_log` do the work of
-//! commands over any readers and writers, of which each is in a latch:
+//! commands over any readers and writers, each in a latch:
 //!
 //! ```rust
 //! use mt_cli::{merge_logs, view_logs};

@@ -13,17 +13,18 @@ use std::io::{self, ErrorKind, Write};
 use std::path::Path;
 use std::rt::Files;
 
-/// How what is written gets its name.
+/// How a written file gets its name.
 #[derive(Clone, Copy)]
 pub(crate) struct WriteOptions {
-    /// OUT may not be there.
+    /// OUT must not exist.
     is_new: bool,
-    /// It is on the disk before it gets its name, and its name before the command is done.
+    /// The file is on the disk before it gets its name, and its name is on the disk before the
+    /// command ends.
     is_synced: bool,
 }
 
 impl WriteOptions {
-    /// As the flags of a command say.
+    /// The options that the flags of a command give.
     pub(crate) fn of(words: &ArgMatches<'_>) -> WriteOptions {
         WriteOptions {
             is_new: words.get_flag("new"),
@@ -31,7 +32,7 @@ impl WriteOptions {
         }
     }
 
-    /// As the flags of a command say that writes a file which is there.
+    /// The options that the flags give for a command that writes an existing file.
     pub(crate) fn in_place(words: &ArgMatches<'_>) -> WriteOptions {
         WriteOptions {
             is_new: false,
@@ -40,8 +41,8 @@ impl WriteOptions {
     }
 }
 
-/// A file that is made by the first write at the latest. One of its name that is there already is
-/// not touched, and the write fails; so does it where OUT is there and may not be.
+/// A file that is made by the first write at the latest. If a file of its name exists already, that
+/// file is not touched and the write fails; it also fails if OUT exists although it must not.
 #[derive(Drop)]
 pub(crate) struct TempFile<'a, F: Files> {
     rt: &'a F,
@@ -49,12 +50,12 @@ pub(crate) struct TempFile<'a, F: Files> {
     out: String,
     naming: WriteOptions,
     made: Option<F::File>,
-    /// Why it could not be made.
+    /// Why the file could not be made.
     refused: Option<PartFault>,
 }
 
 impl<'a, F: Files> TempFile<'a, F> {
-    // One that is not made yet.
+    // A file that is not made yet.
     fn unmade(
         alloc: Global,
         rt: &'a F,
@@ -71,7 +72,7 @@ impl<'a, F: Files> TempFile<'a, F> {
         })
     }
 
-    // Makes it, with the permissions of the file OUT, if there is one.
+    // Makes the file, with the permissions of the file OUT, if there is one.
     fn make(&self) -> Result<F::File, PartFault> {
         match fs::metadata(self.rt, self.out.as_str()) {
             Ok(_) if self.naming.is_new => Err(PartFault::OutThere),
@@ -81,7 +82,7 @@ impl<'a, F: Files> TempFile<'a, F> {
         }
     }
 
-    // A new file of its name.
+    // A new file of this name.
     fn created(&self) -> Result<F::File, PartFault> {
         match File::create_new(self.rt, self.name.as_str()) {
             Ok(file) => Ok(file),
@@ -90,7 +91,7 @@ impl<'a, F: Files> TempFile<'a, F> {
         }
     }
 
-    // The file that was made, with these permissions; it is taken away where it cannot have them.
+    // The file that was made, with these permissions; it is removed if it cannot have them.
     fn kept(&self, file: F::File, permissions: Permissions) -> Result<F::File, PartFault> {
         match file.set_permissions(permissions) {
             Ok(()) => Ok(file),
@@ -128,17 +129,17 @@ impl<F: Files> Write for TempFile<'_, F> {
     }
 }
 
-/// A file that is written under a name of its own, `OUT.part`, and gets the name OUT once it is
-/// whole.
+/// A file that is written under a separate name, `OUT.part`, and renamed to OUT once it is
+/// complete.
 #[derive(Drop)]
 pub(crate) struct Part<'a, F: Files> {
     output: Latch<TempFile<'a, F>>,
 }
 
 impl<'a, F: Files> Part<'a, F> {
-    /// The part of this file, which is made by the first byte that is written into it: then nothing
-    /// is made before all that a command reads was read and accepted. Where it cannot be made the
-    /// output fails.
+    /// A part for the file OUT that is made when its first byte is written. So nothing is made
+    /// before all inputs of a command were read and accepted. If it cannot be made, the output
+    /// fails.
     pub(crate) fn later(
         alloc: Global,
         rt: &'a F,
@@ -150,9 +151,9 @@ impl<'a, F: Files> Part<'a, F> {
         })
     }
 
-    /// Makes the part of this file at once. Refused as `Part` where it cannot be made, where there
-    /// is something of its name, which is not touched: it may be a log, or the part of another
-    /// program that is at work; and where OUT is there and may not be.
+    /// Makes a part for the file OUT at once. Error: `Part` if it cannot be made; if a file of its
+    /// name exists already, which is not touched, because it may be a log or the part of another
+    /// running program; or if OUT exists although it must not.
     pub(crate) fn create(
         alloc: Global,
         rt: &'a F,
@@ -169,17 +170,17 @@ impl<'a, F: Files> Part<'a, F> {
         })
     }
 
-    /// Where it is written.
+    /// The output into which the file is written.
     pub(crate) fn output(&mut self) -> &mut Latch<TempFile<'a, F>> {
         &mut self.output
     }
 
-    /// Gives it the name OUT where it was written whole: what wrote it says so, its latch has not
-    /// failed, it was made, and, unless that is not asked, it is on the disk. Where OUT is a log
-    /// that was read it gets the name in that file's place alone (`Base`). Takes it away where it
-    /// does not get its name, if it was made. Refused as what wrote it was, but that `Write` is
-    /// told as `Part` where the file could not be made; else as `Part` where it does not get its
-    /// name, and as `Write`.
+    /// Renames the part to OUT if it was written completely: its writer returned Ok, its latch has
+    /// not failed, it was made and, unless `is_synced` is false, it is on the disk. If OUT is a log
+    /// that was read, the part can only replace that file (`ReplaceGuard`). If it is not renamed,
+    /// it is removed, if it was made. Errors: the writer's error, except that `Write` becomes
+    /// `Part` if the file could not be made; otherwise `Part` if it could not be renamed, and
+    /// `Write` if it was not written completely.
     pub(crate) fn finish(
         self,
         base: Option<ReplaceGuard>,
@@ -202,7 +203,7 @@ impl<'a, F: Files> Part<'a, F> {
     }
 }
 
-// A part whose output has failed is taken away: it could not be made, or not be written.
+// Removes a part whose output has failed: it could not be made or not be written.
 fn unwritten<F: Files>(part: TempFile<'_, F>) -> Result<(), CliFault>
     ensures refused { is_err result ≡ true }
     ensures of_output { IfErr result (λ fault. IsOfOutput fault) }
@@ -213,7 +214,7 @@ fn unwritten<F: Files>(part: TempFile<'_, F>) -> Result<(), CliFault>
     }
 }
 
-// A part that was made is taken away, for this cause.
+// Removes a part, if it was made, and returns this fault.
 fn taken_away<F: Files>(part: TempFile<'_, F>, fault: CliFault) -> Result<(), CliFault>
     ensures { result ≡ Err fault }
 {
@@ -223,7 +224,7 @@ fn taken_away<F: Files>(part: TempFile<'_, F>, fault: CliFault) -> Result<(), Cl
     Err(fault)
 }
 
-// A part that was written gets its name.
+// Renames a part that was written.
 fn named<F: Files<File = File>>(
     part: TempFile<'_, F>,
     base: Option<ReplaceGuard>,
@@ -253,8 +254,8 @@ fn named<F: Files<File = File>>(
     Err(CliFault::Write)
 }
 
-// Whether a part gets the name OUT: no other's, where OUT may not be there; that of the log that
-// was read, where OUT is one.
+// Whether a part was renamed to OUT. It replaces no file if OUT must not exist, and only the log
+// that was read if OUT is one.
 fn gets_name<F: Files<File = File>>(
     rt: &F,
     name: &str,
@@ -273,7 +274,7 @@ fn gets_name<F: Files<File = File>>(
     is_given
 }
 
-// Whether a part gets the name OUT, where nothing has it.
+// Whether a part got the name OUT, which no file may have.
 fn is_linked<F: Files>(rt: &F, name: &str, out: &str) -> bool {
     if rt.hard_link(name, out).is_err() {
         return false;
@@ -282,8 +283,7 @@ fn is_linked<F: Files>(rt: &F, name: &str, out: &str) -> bool {
     true
 }
 
-// Has the name OUT be on the disk. That a folder cannot be synced is not told: OUT has what was
-// done.
+// Syncs the name OUT to the disk. A failure is not reported, because OUT is written already.
 fn sync_folder<F: Files>(rt: &F, out: &str) {
     let folder = match Path::new(out).parent() {
         Some(folder) if !folder.as_str().is_empty() => folder.as_str(),
@@ -294,7 +294,7 @@ fn sync_folder<F: Files>(rt: &F, out: &str) {
     }
 }
 
-// What the part of this file is called.
+// The name of the part for this file.
 fn part_name(alloc: Global, out: &str) -> Result<String, AllocError> {
     let mut name = String::from_str(alloc, out)?;
     name.push_str(".part")?;

@@ -19,15 +19,14 @@ use cli_words::{ABOUT, Lists, NUMBER, Words, bare, why_flag, with_all};
 use std::alloc::{AllocError, Global};
 use std::io::{Read, Write};
 
-/// Runs the words after the program's name over standard input, output and error, and answers the
-/// exit status: 0 where it is done; 1 where it is refused, and `errors` has then the line `radio:
-/// fault N` of the refusal's number, or a prefix of it where it has failed. Where `--why` is among
-/// the words before a `--`, one more line follows it, which begins with `radio: why: ` and tells
-/// the cause; and only then something may stand before it, or be told with status 0: of the
-/// meetings of `serve` that were refused, two such lines each. 2 where the words do not parse, and
-/// standard error has then the parser's text, or a prefix of it, and neither the input nor the
-/// output was asked. Help and the version go to the output with status 0. A failure of `errors` is
-/// not told.
+/// Runs the words after the program's name over standard input, output and error, and returns the
+/// exit status. 0: done. 1: failed; `errors` then has the line `radio: fault N` with the fault's
+/// number, or a prefix of it if `errors` has failed. If `--why` is among the words before a `--`,
+/// one more line follows, which begins with `radio: why: ` and gives the cause. Only then may
+/// `errors` have other text: two such lines for each failed meeting of `serve`, before these lines
+/// or with status 0. 2: the words do not parse; `errors` then has the parser's text, or a prefix of
+/// it, and neither input nor output was touched. Help and the version go to the output, with status
+/// 0. A failure of `errors` is not reported.
 pub fn command<F: Runtime, R: Read, W: Write, E: Write>(
     rt: &F,
     words: &[String],
@@ -57,7 +56,7 @@ pub fn command<F: Runtime, R: Read, W: Write, E: Write>(
     }
 }
 
-// Tells that a text of the parser's cannot be printed, and answers the status.
+// Reports that a text of the parser cannot be printed, and returns the status.
 fn not_printed<E: Write>(words: &[String], errors: &mut Latch<E>) -> u8
     ensures status { result ≡ 1 }
     ensures told { TellsFault E.contents (asks_why words.now) CliFault.Print errors.old errors.new }
@@ -65,10 +64,10 @@ fn not_printed<E: Write>(words: &[String], errors: &mut Latch<E>) -> u8
     status_of(words, CliFault::Print, NOT_PRINTED, errors)
 }
 
-// What is told where a text of the parser's cannot be printed.
+// The cause that is reported if a text of the parser cannot be printed.
 const NOT_PRINTED: &str = "output standard output cannot be written";
 
-// What is known of a cause; where there was no memory to tell it, this.
+// The known cause of a fault, or `memory` if there was no memory for its text.
 fn known(why: &Option<String>) -> &str {
     match why {
         Some(text) => text.as_str(),
@@ -76,8 +75,7 @@ fn known(why: &Option<String>) -> &str {
     }
 }
 
-// Tells a refusal, with what is known of its cause, where the words ask for it, and answers its
-// status.
+// Reports a fault, with its known cause if the words ask for it, and returns the status.
 fn status_of<E: Write>(words: &[String], fault: CliFault, why: &str, errors: &mut Latch<E>) -> u8
     ensures status { result ≡ 1 }
     ensures told { TellsFault E.contents (asks_why words.now) fault errors.old errors.new }
@@ -119,7 +117,7 @@ fn run<F: Runtime, R: Read, W: Write, E: Write>(
     }
 }
 
-// What a command that nobody handles comes to.
+// The exit for a command that is not handled.
 fn nobody(alloc: Global) -> Exit {
     Exit::Told {
         text: String::new(alloc),
@@ -127,7 +125,7 @@ fn nobody(alloc: Global) -> Exit {
     }
 }
 
-// The commands that write on the output, and all others.
+// Runs a command that writes to the output, or any other command.
 #[tactic(auto, using(crate::proofs::Telling::no_cause))]
 fn print<F: Runtime, R: Read, W: Write, E: Write>(
     rt: &F,
@@ -161,7 +159,7 @@ fn print<F: Runtime, R: Read, W: Write, E: Write>(
     }
 }
 
-// The commands that make a file of files, and all others.
+// Runs a command that makes a file from files, or any other of the rest.
 #[tactic(auto, using(crate::proofs::Telling::no_cause))]
 fn make<F: Runtime, W: Write, E: Write>(
     rt: &F,
@@ -183,7 +181,7 @@ fn make<F: Runtime, W: Write, E: Write>(
     }
 }
 
-// The commands by which editors swap operations.
+// Runs a command by which editors exchange operations.
 #[tactic(auto, using(crate::proofs::Telling::no_cause))]
 fn swap<F: Runtime, E: Write>(
     rt: &F,
@@ -212,7 +210,7 @@ fn radio<'a>(alloc: Global) -> Result<Command<'a>, AllocError> {
     with_all(alloc, command, of_others())
 }
 
-// The commands that show logs, and make other logs of them.
+// The commands that show logs, and make other logs from them.
 fn of_logs() -> &'static [Words] {
     &OF_LOGS
 }
@@ -227,7 +225,7 @@ static OF_LOGS: [Words; 7] = [
     revert::WORDS,
 ];
 
-// The commands that look into logs, and make sound of them.
+// The commands that examine logs, and render them.
 fn of_sessions() -> &'static [Words] {
     &OF_SESSIONS
 }
@@ -240,7 +238,7 @@ static OF_SESSIONS: [Words; 5] = [
     render::WORDS,
 ];
 
-// The commands by which editors swap operations.
+// The commands by which editors exchange operations.
 fn of_swaps() -> &'static [Words] {
     &OF_SWAPS
 }
@@ -253,7 +251,7 @@ static OF_SWAPS: [Words; 5] = [
     meet::WORDS,
 ];
 
-// The commands that tell of other files, and of refusals.
+// The commands for other files, and for errors.
 fn of_others() -> &'static [Words] {
     &OF_OTHERS
 }
@@ -272,7 +270,7 @@ fn lists() -> Lists {
     [of_logs(), of_sessions(), of_swaps(), of_others()]
 }
 
-// Its name and what is told of it as a whole.
+// The program's name, and the texts of its help.
 fn named<'a>(alloc: Global) -> Result<Command<'a>, AllocError> {
     let command = bare(alloc, "radio", ABOUT, AFTER_HELP).bin_name("radio")?;
     Ok(

@@ -1,4 +1,4 @@
-//! The lines that tell a refusal.
+//! The lines that report a fault.
 
 ghost use Rattle.std.specs.Prelude.{◌≡◌, ◌++◌, codes};
 ghost use Rattle.std.specs.List.{flat_map, position};
@@ -11,7 +11,7 @@ use base_io::{BufferedLatch, Latch};
 use cli_calls::CliFault;
 use std::io::Write;
 
-// Where the first `--` stands.
+// The place of the first `--`.
 fn place_of_dashes(words: &[String]) -> Option<usize>
     ensures { result ≡ position (is_word (codes "--")) words.now }
 {
@@ -28,7 +28,7 @@ fn words_before_dashes(words: &[String]) -> &[String]
     }
 }
 
-/// Whether the words ask for the cause of a refusal.
+/// Whether the words request the cause of a fault.
 pub(crate) fn asks_why(words: &[String]) -> bool
     ensures { result ≡ asks_why words.now }
 {
@@ -37,7 +37,7 @@ pub(crate) fn asks_why(words: &[String]) -> bool
         .any(|word| word.as_str() == "--why")
 }
 
-// Hands over a byte of a text that is told on one line.
+// Puts a byte of a text that is printed on one line.
 fn hand_byte<W: Write>(line: &mut BufferedLatch<'_, W>, byte: u8)
     ensures { Puts W.contents line.old line.new (on_line byte) }
 {
@@ -48,7 +48,7 @@ fn hand_byte<W: Write>(line: &mut BufferedLatch<'_, W>, byte: u8)
     line.put(&[byte]);
 }
 
-// Hands over a text, with no end of a line in it.
+// Puts a text, without line ends in it.
 #[tactic(auto, using(base_io::proofs::Putting::puts_none))]
 fn hand_text<W: Write>(line: &mut BufferedLatch<'_, W>, text: &[u8])
     ensures { Puts W.contents line.old line.new (flat_map on_line text.now) }
@@ -58,7 +58,7 @@ fn hand_text<W: Write>(line: &mut BufferedLatch<'_, W>, text: &[u8])
     }
 }
 
-// Hands over a line: these bytes and a number.
+// Puts a line of these bytes and a number.
 #[tactic(auto, using(base_io::proofs::Putting::then_puts))]
 fn hand_line<W: Write>(line: &mut BufferedLatch<'_, W>, front: &[u8], number: u64)
     ensures { Puts W.contents line.old line.new (number_line front.now number) }
@@ -68,7 +68,7 @@ fn hand_line<W: Write>(line: &mut BufferedLatch<'_, W>, front: &[u8], number: u6
     line.put(b"\n");
 }
 
-// Hands over the line that tells a cause.
+// Puts the line with a cause.
 #[tactic(auto, using(base_io::proofs::Putting::then_puts))]
 fn hand_cause<W: Write>(line: &mut BufferedLatch<'_, W>, text: &str)
     ensures { Puts W.contents line.old line.new (why_line text.now) }
@@ -78,7 +78,7 @@ fn hand_cause<W: Write>(line: &mut BufferedLatch<'_, W>, text: &str)
     line.put(b"\n");
 }
 
-/// Tells a refusal.
+/// Prints the line of a fault.
 pub(crate) fn put_refusal<E: Write>(fault: CliFault, errors: &mut Latch<E>)
     ensures { HasTold E.contents errors.old errors.new (fault_line fault) }
 {
@@ -87,7 +87,7 @@ pub(crate) fn put_refusal<E: Write>(fault: CliFault, errors: &mut Latch<E>)
     let _ = lines.flush();
 }
 
-/// Tells a refusal and its cause.
+/// Prints the line of a fault, and the line with its cause.
 pub(crate) fn put_cause<E: Write>(fault: CliFault, text: &str, errors: &mut Latch<E>)
     ensures { HasTold E.contents errors.old errors.new (fault_line fault ++ why_line text.now) }
 {
@@ -97,7 +97,7 @@ pub(crate) fn put_cause<E: Write>(fault: CliFault, text: &str, errors: &mut Latc
     let _ = lines.flush();
 }
 
-/// Tells a text.
+/// Prints a text.
 pub(crate) fn put_text<E: Write>(text: &str, errors: &mut Latch<E>)
     ensures { HasTold E.contents errors.old errors.new text.now }
 {

@@ -1,17 +1,17 @@
-//! The refusals, each with its number: what `radio explain` prints.
+//! The refusals, each with its number, as `radio explain` prints them.
 
 ghost use Rattle.std.specs.Prelude.{◌≡◌, ◌≢◌, ◌↔◌, ◌<◌, None, IfSome};
 ghost use Rattle.std.specs.List.{AllByRecursion};
 ghost use Rattle.mt_cli.specs.declared.refusals.Refusal.{Refusal as RefusalOf};
 
-/// A refusal.
+/// A refusal, as `radio explain` prints it.
 #[derive(Debug, Drop)]
 pub struct Refusal {
-    /// The number that `radio: fault N` tells.
+    /// The number in `radio: fault N`.
     pub number: u8,
-    /// The name that it has in the fault types.
+    /// The name of its variant in the fault types.
     pub name: &'static str,
-    /// When it comes.
+    /// When it occurs.
     pub meaning: &'static str,
     /// What a user can do about it.
     pub advice: &'static str,
@@ -93,7 +93,7 @@ const OF_OPERATIONS: [Refusal; 11] = [
     },
 ];
 
-/// The refusals of logs, of lists of tracks and of what waits.
+/// The refusals of logs, of track lists and of hold-backs.
 const OF_LOGS: [Refusal; 10] = [
     Refusal {
         number: 11,
@@ -366,7 +366,8 @@ const OF_FILES_AND_PARTS: [Refusal; 16] = [
     },
 ];
 
-/// The refusal of this number: there is one for each from 0 to 52, and none for any other number.
+/// The refusal of this number: there is exactly one for each number from 0 to 52, and none for any
+/// other number.
 pub fn find_refusal(number: u8) -> Option<&'static Refusal>
     ensures found { IfSome result (λ r. r.now.number ≡ number) }
     ensures none { result ≡ None ↔ 52 < number }

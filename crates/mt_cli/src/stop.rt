@@ -1,4 +1,4 @@
-//! What stops the program.
+//! The early exits of the program.
 
 ghost use Rattle.std.specs.Prelude.{IfErr};
 ghost use Rattle.mt_cli.specs.Mistakes.{IsMistake};
@@ -7,23 +7,24 @@ use clap::error::ErrorKind;
 use cli_calls::CliFault;
 use std::alloc::Global;
 
-/// What stops the program.
+/// An early exit of the program.
 #[derive(Debug, Drop)]
 pub(crate) enum Exit {
-    /// A command was refused; beside it what is known of the cause, where that was asked for and
-    /// there was memory to tell it.
+    /// A command failed, with its known cause, if the cause was requested and there was memory for
+    /// its text.
     Refused {
         fault: CliFault,
         why: Option<String>,
     },
-    /// The command line asks for a text, as help, or does not parse.
+    /// The parser has a text: help that was requested, or the error of a command line that does not
+    /// parse.
     Told {
         text: String,
         is_mistake: bool,
     },
 }
 
-/// What a command comes to, as the program is stopped by it.
+/// A command's result, with its fault as an exit of the program.
 pub(crate) fn exit_of(done: Result<(), CliFault>) -> Result<(), Exit>
     ensures no_mistake { IfErr result (λ stop. IsMistake stop → ⊥) }
 {
@@ -33,7 +34,7 @@ pub(crate) fn exit_of(done: Result<(), CliFault>) -> Result<(), Exit>
     }
 }
 
-// A refusal, of which no more is known.
+// The exit for a fault, without a known cause.
 pub(crate) fn refused(fault: CliFault) -> Exit
     ensures { IsMistake result → ⊥ }
 {
@@ -41,7 +42,7 @@ pub(crate) fn refused(fault: CliFault) -> Exit
 }
 
 impl Exit {
-    /// What the parser tells in place of a match.
+    /// The exit for a text that the parser returns instead of a match.
     pub(crate) fn told(alloc: Global, error: clap::Error) -> Exit {
         if error.kind() == ErrorKind::OutOfMemory {
             return refused(CliFault::Memory);

@@ -1,4 +1,4 @@
-//! What is known of the cause of a refusal, as `--why` tells it.
+//! The known cause of a fault, as `--why` prints it.
 
 ghost use Rattle.std.specs.Prelude.{◌≡◌, IfErr, Err};
 ghost use Rattle.mt_cli.specs.Mistakes.{IsMistake};
@@ -19,8 +19,8 @@ use std::alloc::Global;
 use std::fs;
 use std::rt::Files;
 
-/// What is known of the cause of a refusal: of the words that a command of this name was called
-/// with, and of their files. Nothing where memory is refused.
+/// The cause of a fault, as far as it is known from the words with which the command of this name
+/// was called, and from their files. None if an allocation fails.
 pub(crate) fn cause<F: Files + AllocGlobal>(
     rt: &F,
     name: &str,
@@ -30,7 +30,7 @@ pub(crate) fn cause<F: Files + AllocGlobal>(
     cause_of(rt, &Call { name, words }, *fault)
 }
 
-/// What a command came to, with what is known of the cause of a refusal where that is asked for.
+/// A command's result, with the known cause of a fault if the cause was requested.
 pub(crate) fn explained<F: Files + AllocGlobal>(
     rt: &F,
     name: &str,
@@ -47,7 +47,7 @@ pub(crate) fn explained<F: Files + AllocGlobal>(
     }
 }
 
-// The same stop, with what is known of the cause of a refusal.
+// This exit, with the known cause of a fault.
 fn with_cause<F: Files + AllocGlobal>(
     rt: &F,
     name: &str,
@@ -65,7 +65,7 @@ fn with_cause<F: Files + AllocGlobal>(
     }
 }
 
-// A refusal, with what is known of its cause.
+// The exit for a fault, with its known cause.
 fn refused_for<F: Files + AllocGlobal>(
     rt: &F,
     name: &str,
@@ -78,7 +78,7 @@ fn refused_for<F: Files + AllocGlobal>(
     Exit::Refused { fault, why }
 }
 
-// A command's name, and the words that it was called with.
+// A command's name, and the words with which it was called.
 #[derive(Clone, Copy)]
 struct Call<'c, 'w> {
     name: &'c str,
@@ -86,12 +86,12 @@ struct Call<'c, 'w> {
 }
 
 impl<'w> Call<'_, 'w> {
-    // The word that is called so.
+    // The word of this name.
     fn word(&self, id: &str) -> &'w str {
         self.words.get_str(id).unwrap_or("")
     }
 
-    // The words that name a command's inputs, in the order in which these are counted.
+    // The words that name a command's inputs, in the order in which inputs are counted.
     fn inputs(&self) -> &'static [&'static str] {
         match self.name {
             "edit" => &["LOG", "SCRIPT"],
@@ -108,7 +108,7 @@ impl<'w> Call<'_, 'w> {
         }
     }
 
-    // The word that is no name, where it has to be one.
+    // The word that is not a name but has to be one.
     fn named(&self) -> &'w str {
         match self.name {
             "lay" => self.word("TRACK"),
@@ -117,7 +117,7 @@ impl<'w> Call<'_, 'w> {
         }
     }
 
-    // The first of the words that name operations that is no text of a stamp.
+    // The first of the words for operations that is not the text of a stamp.
     fn no_stamp(&self) -> &'w str {
         for word in self.words.get_strs("STAMP").unwrap_or(&[]) {
             if Stamp::read(word).is_err() {
@@ -127,7 +127,7 @@ impl<'w> Call<'_, 'w> {
         ""
     }
 
-    // The name of the input of this index, of those that these words name.
+    // The name of the input at this index, among those that these words name.
     fn input(&self, ids: &[&str], index: usize) -> &'w str {
         let mut left = index;
         for id in ids {
@@ -144,7 +144,7 @@ impl<'w> Call<'_, 'w> {
         }
     }
 
-    // The name of the input of this index, which where no LOG is named is standard input first.
+    // The name of the input at this index; without a LOG, standard input is the first.
     fn read_input(&self, index: usize) -> &'w str {
         if self.name != "timeline" || !self.words.get_strs("LOG").unwrap_or(&[]).is_empty() {
             return self.input(self.inputs(), index);
@@ -155,7 +155,7 @@ impl<'w> Call<'_, 'w> {
         }
     }
 
-    // The name of the recording of this index.
+    // The name of the recording at this index.
     fn recording(&self, index: usize) -> &'w str {
         match self.name {
             "timeline" => self.input(&["source"], index),
@@ -163,7 +163,7 @@ impl<'w> Call<'_, 'w> {
         }
     }
 
-    // The first option of a format that is not one that is written.
+    // The first option of a format with a value that is not supported.
     fn format_option(&self) -> &'static str {
         if !(1..=384_000).contains(&self.words.get_one::<u32>("rate").unwrap_or(0)) {
             return "rate";
@@ -174,7 +174,7 @@ impl<'w> Call<'_, 'w> {
         }
     }
 
-    // The name of what it writes.
+    // The name of the command's output.
     fn output(&self) -> &'w str {
         match self.words.get_str("OUT") {
             Some(name) => name,
@@ -186,7 +186,7 @@ impl<'w> Call<'_, 'w> {
 
 const STANDARD_OUTPUT: &str = "standard output";
 
-// What is known of the cause of a command's refusal; nothing where memory is refused.
+// The known cause of a command's fault; none if an allocation fails.
 fn cause_of<F: Files + AllocGlobal>(
     rt: &F,
     call: &Call<'_, '_>,
@@ -216,12 +216,12 @@ fn cause_of<F: Files + AllocGlobal>(
     }
 }
 
-// A word, and what it is said of.
+// A text of a word and a name.
 fn told(alloc: Global, word: &str, name: &str) -> Option<String> {
     format!(in alloc; "{word}{name}").ok()
 }
 
-// A log that is none, and the record at fault, counted from 0.
+// The cause: a file that is not a log, and the record at fault, counted from 0.
 fn log_cause(alloc: Global, name: &str, fault: LogFault) -> Option<String> {
     match fault {
         LogFault::BadRecord(record, _) | LogFault::OutOfOrder(record) => {
@@ -231,20 +231,20 @@ fn log_cause(alloc: Global, name: &str, fault: LogFault) -> Option<String> {
     }
 }
 
-// A log, and how many items were found in it.
+// The cause: a log, and the number of items found in it.
 fn found_cause(alloc: Global, name: &str, count: usize) -> Option<String> {
     format!(in alloc; "log {name} items {count}").ok()
 }
 
-// A log, and the operation in it that has another's name.
+// The cause: a log, and the operation in it that has another's name.
 fn operation_cause(alloc: Global, name: &str, dot: Dot) -> Option<String> {
     let replica = dot.replica.text(alloc).ok()?;
     let number = dot.seq;
     format!(in alloc; "log {name} operation {number}.{replica}").ok()
 }
 
-// The first log that has another operation of this name than those before it: they are read once
-// more.
+// The cause: the first log that has another operation of this name than those before it. The logs
+// are read again.
 fn conflict_cause<F: Files + AllocGlobal>(rt: &F, call: &Call<'_, '_>, dot: Dot) -> Option<String> {
     let mut first = None;
     for id in call.inputs() {
@@ -263,7 +263,7 @@ fn conflict_cause<F: Files + AllocGlobal>(rt: &F, call: &Call<'_, '_>, dot: Dot)
     operation_cause(rt.alloc(), call.word("LOG"), dot)
 }
 
-// Whether a log has another operation of this name than the first log that has one.
+// Whether a log has another operation of this name than the first log with one.
 fn is_other(first: &Option<Log>, log: &Log, dot: &Dot) -> bool {
     let Some(first) = first else {
         return false;
@@ -274,19 +274,19 @@ fn is_other(first: &Option<Log>, log: &Log, dot: &Dot) -> bool {
     }
 }
 
-// The log in a file, where it still is one.
+// The log in a file, if the file still has one.
 fn log_named<F: Files + AllocGlobal>(rt: &F, name: &str) -> Option<Log> {
     let bytes = bytes_named(rt, name)?;
     Log::read(rt.alloc(), &bytes).ok()
 }
 
-// The bytes of a file, where it still can be read.
+// The bytes of a file, if it can still be read.
 fn bytes_named<F: Files + AllocGlobal>(rt: &F, name: &str) -> Option<Vec<u8>> {
     let mut file = Latch::new(fs::open(rt, name).ok()?);
     file.get_all(rt.alloc()).ok()
 }
 
-// Why a programme cannot be mixed: a recording, of which one of another rate is named, or the log,
+// Why a programme cannot be mixed: a recording, with its file if it has another rate, or the log
 // whose programme is too long.
 fn mix_cause<F: Files + AllocGlobal>(
     rt: &F,
@@ -304,8 +304,8 @@ fn mix_cause<F: Files + AllocGlobal>(
     }
 }
 
-// A recording of another rate: its digest, its rate and its name. The recordings are read once
-// more.
+// The cause: a recording of another rate, with its digest, its rate and its name. The recordings
+// are read again.
 fn rate_cause<F: Files + AllocGlobal>(
     rt: &F,
     call: &Call<'_, '_>,
@@ -321,7 +321,8 @@ fn rate_cause<F: Files + AllocGlobal>(
     told(alloc, "source ", &text)
 }
 
-// Why a recording is not laid: its file, and of another rate what it is. It is read once more.
+// Why a recording is not laid: its file, and also its digest and rate if it has another rate. It is
+// read again.
 fn lay_cause<F: Files + AllocGlobal>(rt: &F, name: &str, fault: LayFault) -> Option<String> {
     let alloc = rt.alloc();
     if fault != LayFault::RateDiffers {
@@ -333,7 +334,7 @@ fn lay_cause<F: Files + AllocGlobal>(rt: &F, name: &str, fault: LayFault) -> Opt
     format!(in alloc; "source {text} rate {rate} file {name}").ok()
 }
 
-// The rate of a recording, where its file still has this digest.
+// The rate of a recording, if its file still has this digest.
 fn rate_of<F: Files + AllocGlobal>(rt: &F, name: &str, digest: Digest) -> Option<u32> {
     let bytes = bytes_named(rt, name)?;
     if Digest::of(&bytes) != digest {
@@ -342,12 +343,12 @@ fn rate_of<F: Files + AllocGlobal>(rt: &F, name: &str, digest: Digest) -> Option
     Some(Wave::read(&bytes).ok()?.rate())
 }
 
-// An output, and what became of it.
+// The cause: an output, and what is wrong with it.
 fn output_cause(alloc: Global, name: &str, what: &str) -> Option<String> {
     format!(in alloc; "output {name} {what}").ok()
 }
 
-// A file that was not made, or did not get its name.
+// The cause: a file that was not made, or did not get its name.
 fn part_cause(alloc: Global, name: &str, fault: PartFault) -> Option<String> {
     match fault {
         PartFault::OutThere => output_cause(alloc, name, "is there"),
@@ -357,7 +358,7 @@ fn part_cause(alloc: Global, name: &str, fault: PartFault) -> Option<String> {
     }
 }
 
-// The option of a text of the head.
+// The option for a text of the head.
 fn head_option(fault: HeadFault) -> &'static str {
     let HeadFault::BadHead(place) = fault;
     match place {
@@ -369,7 +370,8 @@ fn head_option(fault: HeadFault) -> &'static str {
     }
 }
 
-// A script, its line at fault, counted from 1, and the refusal of the change that this asks for.
+// The cause: a script, its line at fault, counted from 1, and the number of the fault of that
+// line's change.
 fn script_cause(alloc: Global, name: &str, fault: ScriptFault) -> Option<String> {
     match fault {
         ScriptFault::BadLine(line) => format!(in alloc; "script {name} line {line}").ok(),
@@ -381,8 +383,8 @@ fn script_cause(alloc: Global, name: &str, fault: ScriptFault) -> Option<String>
     }
 }
 
-// Where messages came from that are not taken: a file, or the other end of a conversation. Of
-// `have`, whose own message is too long, the log.
+// The source of messages that were not taken: a file, or the other end of a conversation. For
+// `have`, whose own message is too long, it is the log.
 fn messages_cause(alloc: Global, call: &Call<'_, '_>) -> Option<String> {
     match call.name {
         "have" => told(alloc, "log ", call.word("LOG")),
@@ -393,13 +395,13 @@ fn messages_cause(alloc: Global, call: &Call<'_, '_>) -> Option<String> {
     }
 }
 
-// Messages of one of two files.
+// The cause: messages of one of two files.
 fn either_cause(alloc: Global, left: &str, right: &str) -> Option<String> {
     format!(in alloc; "messages {left} or {right}").ok()
 }
 
-// Why operations are not taken: one of them has another's name in the log, or the messages, as
-// where no log is named.
+// Why operations were not taken: one has the name of another in the log; otherwise, and for `diff`,
+// the messages are at fault.
 fn sync_cause(alloc: Global, call: &Call<'_, '_>, fault: SyncFault) -> Option<String> {
     match fault {
         SyncFault::Talk(TalkFault::Conflict(dot)) if call.name != "diff" => {

@@ -1,4 +1,4 @@
--- Files that are given as recordings, and what each of them is (profile).
+-- Files that are given as recordings, and the recording of each (profile).
 use Rattle.std.specs.Prelude.{ℕ, Bool, List, [], ◌∷◌, Option, Some, None, Result, Ok, Err}
 use Rattle.std.specs.Prelude.{if◌then◌else◌}
 use Rattle.std.specs.Ordering.{is_eq}
@@ -9,12 +9,12 @@ use Rattle.mt_bwfread.specs.Wave.{fault_of, rate_of, channels_of, frames_of}
 use Rattle.mt_render.specs.Sources.{digest_cmp}
 use Rattle.text_check.specs.declared.given.Recording.{Recording}
 
--- a file: its name, and the recording that it is, or why it is no wave file
+-- a file: its name, and its recording, or why it is not a wave file
 pub record GivenFile : Type 0 where
   pub name : List ℕ
   pub recording : Result Recording WaveFault
 
--- what these bytes are
+-- the recording of these bytes, or why they are not a wave file
 abbrev pub recording_of : List ℕ → Option WaveFault → Result Recording WaveFault
 recording_of bytes None = Ok (record { digest = record { 0 = sha256 bytes }; rate = rate_of bytes;
     channels = channels_of bytes; frames = frames_of bytes })
@@ -29,18 +29,18 @@ pub record FoundFile : Type 0 where
   pub name : List ℕ
   pub recording : Recording
 
--- digests that are one
+-- whether two digests are equal
 abbrev pub is_same : Digest → Digest → Bool
 is_same d e = is_eq (digest_cmp d e)
 
--- a file, where it is the recording of this digest, and else what stands behind it
+-- this file, if it has the recording of this digest; otherwise the file found among the later ones
 abbrev pub found_or : Digest → List ℕ → Result Recording WaveFault → Option FoundFile
     → Option FoundFile
 found_or d name (Ok r) behind = if is_same r.digest d then Some
     (record { name = name; recording = r }) else behind
 found_or d name (Err fault) behind = behind
 
--- the first of these files that is the recording of this digest
+-- the first of these files with the recording of this digest
 abbrev pub first_of : List GivenFile → Digest → Option FoundFile
 first_of [] d = None
 first_of (f ∷ fs) d = found_or d f.name f.recording (first_of fs d)

@@ -1,4 +1,4 @@
--- A text of lines as it grows, and what is noted for it: no definition of the subject.
+-- Working definitions: a text of lines that grows, and marks of clips.
 use Rattle.std.specs.Prelude.{◌≡◌, ℕ, ◌+◌, ◌<◌, ◌==◌, Bool, false, List, [], ◌∷◌, ◌++◌, length}
 use Rattle.std.specs.Prelude.{slice_index_or}
 use Rattle.std.specs.List.{list_any}
@@ -7,7 +7,7 @@ use Rattle.mt_overlap.specs.declared.span.Segment.{Segment}
 use Rattle.mt_render.specs.Lanes.{clip_at}
 use Rattle.text_check.specs.Covered.{is_on_top}
 
--- lines one after another, and how many they are
+-- lines one after another, and their number
 pub record LinesText : Type 0 where
   pub text : List ℕ
   pub count : ℕ
@@ -19,15 +19,15 @@ abbrev pub with_lines : LinesText → List (List ℕ) → LinesText
 with_lines l [] = l
 with_lines l (line ∷ lines) = with_lines (with_line l line) lines
 
--- what is marked of an index, false of one that is not there
+-- the mark at an index; false if there is no such index
 abbrev pub mark_at : List Bool → ℕ → Bool
 mark_at marks i = slice_index_or marks i false
 
--- whether one of these segments is of the span of an index
+-- whether one of these segments belongs to the span at an index
 abbrev pub is_named : List Segment → ℕ → Bool
 is_named segments i = list_any (λ (s : Segment). s.which == i) segments
 
--- of each clip of a track that is not muted, whether it is on top at one of its frames
+-- for each clip of a track that is not muted, whether it is on top in at least one of its frames
 pub record AreTops (clips : List Clip) (marks : List Bool) : Type 0 where
   pub count : length marks ≡ length clips
   pub each : (i : ℕ) → i < length clips → (clip_at clips i).mute ≡ false → mark_at marks i

@@ -1,4 +1,4 @@
--- The recordings that the clips of a session play, and what the session makes of each (profile).
+-- The recordings that the clips of a session play, and how the session uses each (profile).
 use Rattle.std.specs.Prelude.{ℕ, ◌+◌, max, Bool, List, [], ◌∷◌, map, filter, length}
 use Rattle.std.specs.List.{flat_map, dedup, list_any}
 use Rattle.mt_stamp.specs.Sorting.{sort_by}
@@ -13,7 +13,7 @@ use Rattle.text_check.specs.Files.{is_same}
 abbrev pub all_clips : List Track → List Clip
 all_clips tracks = flat_map (λ t. t.clips) tracks
 
--- the digests that clips name, rising, each once
+-- the digests that clips name, in rising order, each once
 abbrev pub named_by : List Clip → List Digest
 named_by clips = dedup is_same (sort_by digest_cmp (map (λ c. c.source) clips))
 
@@ -24,27 +24,27 @@ named tracks = named_by (all_clips tracks)
 abbrev pub playing : Digest → List Clip → List Clip
 playing d clips = filter (λ c. is_same c.source d) clips
 
--- the first frame of their recording behind all that these clips play: the greatest offset and
--- length together
+-- the first frame of their recording after all that these clips play: the greatest sum of offset
+-- and length
 abbrev pub end_of : List Clip → ℕ
 end_of [] = 0
 end_of (c ∷ cs) = max (c.offset + c.len) (end_of cs)
 
--- what is made of a recording by these clips, of which those are audible
+-- the use of a recording by these clips; `heard` are the audible ones
 abbrev pub use_by : List Clip → List Clip → Digest → Use
 use_by clips heard d = record { clips = length (playing d clips); audible = length
     (playing d heard); end = end_of (playing d clips) }
 
--- How many clips of a session play a recording, how many of them are audible, as a mix has it (not
--- muted, on a track that is not, though others may lie over them), and how far into the recording
--- they go.
+-- The use of a recording by a session: how many clips play it, how many of these are audible as in
+-- a mix (not muted, on a track that is not muted, though others may cover them), and how far into
+-- the recording they go.
 abbrev pub use_of : List Track → Digest → Use
 use_of tracks d = use_by (all_clips tracks) (audible tracks) d
 
--- one of these clips plays the recording
+-- whether one of these clips plays the recording
 abbrev pub is_played : List Clip → Digest → Bool
 is_played clips d = list_any (λ c. is_same c.source d) clips
 
--- a clip that is audible plays it
+-- whether an audible clip plays the recording
 abbrev pub is_audible : List Track → Digest → Bool
 is_audible tracks d = is_played (audible tracks) d

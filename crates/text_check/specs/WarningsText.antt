@@ -1,5 +1,5 @@
--- What is written of what sounds otherwise than one may think (profile): a line for each such
--- thing, kind by kind, and one for how many lines stand before it.
+-- The warnings about what may sound otherwise than expected (profile): a line for each, kind by
+-- kind, and one with the number of lines before it.
 use Rattle.std.specs.Prelude.{ℕ, ◌+◌, Bool, not, nat_lt, List, [], ◌∷◌, ◌++◌, length, codes, Option}
 use Rattle.std.specs.Prelude.{Some, None, if◌then◌else◌}
 use Rattle.std.specs.Fmt.{decimal}
@@ -24,11 +24,11 @@ use Rattle.mt_render.specs.Refusals.{audible}
 use Rattle.text_check.specs.Covered.{is_covered}
 use Rattle.text_check.specs.Played.{named_by}
 
--- a line, where there is one
+-- the list of a line, or the empty list if the line does not apply
 abbrev pub line_where : Bool → List ℕ → List (List ℕ)
 line_where there line = if there then line ∷ [] else []
 
--- ---- clips that go past the ends of their recordings
+-- ---- clips that continue past the ends of their recordings
 
 -- `past-end CLIP end N frames N`
 abbrev pub past_end_line : Stamp → ℕ → ℕ → List ℕ
@@ -36,8 +36,8 @@ past_end_line clip end frames = codes "past-end " ++
     (stamp_text clip ++ (codes " end " ++ (decimal end
     ++ (codes " frames " ++ (decimal frames ++ newline ∷ [])))))
 
--- A clip whose offset and length together are more than its recording's frames: the rest of it is
--- silence. Of a recording that is not there nobody knows.
+-- A clip whose offset and length add up to more than its recording's frames; the rest of the clip
+-- is silence. For a recording that is not available there is no line.
 abbrev pub past_end : Clip → Option (List ℕ) → List (List ℕ)
 past_end c None = []
 past_end c (Some text) = line_where (nat_lt (frames_of text) (c.offset + c.len))
@@ -52,11 +52,11 @@ past_end_lines sources clips = flat_map (λ c. past_end c (found sources c.sourc
 abbrev pub covered_line : Stamp → List ℕ
 covered_line clip = codes "covered " ++ (stamp_text clip ++ newline ∷ [])
 
--- those of these clips that are covered, of a track of all of those
+-- the lines of the covered ones of these clips; `all` are the clips of their track
 abbrev pub covered_among : List Clip → List Clip → List (List ℕ)
 covered_among all clips = flat_map (λ c. line_where (is_covered all c) (covered_line c.clip)) clips
 
--- none of a track that is muted
+-- the lines of a track; none if it is muted
 abbrev pub covered_on : Track → List (List ℕ)
 covered_on t = if t.mute then [] else covered_among t.clips t.clips
 
@@ -70,8 +70,8 @@ abbrev pub one_channel_line : Digest → ℕ → List ℕ
 one_channel_line d channels = codes "one-channel "
     ++ (digest_text d ++ (codes " channels " ++ (decimal channels ++ newline ∷ [])))
 
--- A recording of more channels than are put out: an output of so many plays as many of a
--- recording's, from its first on, and none behind them.
+-- A recording with more channels than the output: an output of n channels plays the first n
+-- channels of a recording, and none after them.
 abbrev pub one_channel : ℕ → Digest → Option (List ℕ) → List (List ℕ)
 one_channel channels d None = []
 one_channel channels d (Some text) = line_where (nat_lt channels (channels_of text))
@@ -81,14 +81,14 @@ abbrev pub one_channel_lines : Sources → ℕ → List Digest → List (List �
 one_channel_lines sources channels digests = flat_map
     (λ d. one_channel channels d (found sources d)) digests
 
--- ---- markers that a file does not have
+-- ---- markers that a rendered file does not have
 
 -- `behind MARKER at N`
 abbrev pub behind_line : Stamp → ℕ → List ℕ
 behind_line marker at = codes "behind " ++ (stamp_text marker
     ++ (codes " at " ++ (decimal at ++ newline ∷ [])))
 
--- A marker that stands at the programme's end or behind it: only those before it are written into a
+-- A marker at the end of the programme or after it: only those before the end are written into a
 -- file.
 abbrev pub behind : ℕ → Marker → List (List ℕ)
 behind end m = line_where (not (nat_lt m.at end)) (behind_line m.marker m.at)
@@ -108,12 +108,12 @@ abbrev pub first_unmet : List Op → List Need → Option Need
 first_unmet ops [] = None
 first_unmet ops (need ∷ needs) = if is_need_met ops need then first_unmet ops needs else Some need
 
--- of an operation that is held there is one
+-- the line of an operation with this unmet need; no line if all its needs are met
 abbrev pub waiting : Stamp → Option Need → List (List ℕ)
 waiting stamp None = []
 waiting stamp (Some need) = needs_line stamp need.stamp ∷ []
 
--- An operation that is held, and the first of its needs that no ready operation meets.
+-- The line of a held operation, with the first of its needs that no ready operation meets.
 abbrev pub held_of : List Op → Op → List (List ℕ)
 held_of ready o = waiting o.stamp (first_unmet ready (needs o))
 

@@ -1,4 +1,4 @@
-//! Which recordings sound.
+//! The recordings that are heard.
 
 ghost use Rattle.std.specs.Prelude.{◌≡◌, IfOk};
 ghost use Rattle.mt_op.specs.declared.digest.Digest.{Digest as DigestOf};
@@ -12,17 +12,18 @@ use mt_sessionview::Session;
 use std::alloc::{AllocError, Allocator, Global};
 use std::collections::BTreeMap;
 
-/// Which recordings the audible clips of a session play, those that are not muted on tracks that
-/// are not. Of recordings these alone count for a mix, for its file and for its warnings (the laws
-/// `same_recordings`), so that the others can be let go.
+/// The recordings that the audible clips of a session play: clips that are not muted, on tracks
+/// that are not muted. Of all recordings only these affect a mix, its file and its warnings (the
+/// laws `same_recordings`), so the others can be dropped.
 #[derive(Drop)]
 pub struct Audible<A: Allocator = Global> {
     uses: BTreeMap<Digest, Use, A>,
 }
 
 impl<A: Allocator> Audible<A> {
-    /// Those of a session, in a time of n log n for n clips. It keeps a line for each recording,
-    /// and a reference to each clip until it is made. Refused only where an allocation failed.
+    /// The audible recordings of a session. Takes O(n log n) time for n clips. It keeps a line for
+    /// each recording, and a reference to each clip while it is made. Fails only if an allocation
+    /// fails.
     pub fn of<B: Allocator>(alloc: A, session: &Session<B>) -> Result<Audible<A>, AllocError>
     where
         A: Clone,

@@ -1,4 +1,4 @@
-//! Markers that a file does not have.
+//! Markers that a rendered file does not have.
 
 ghost use Rattle.std.specs.Prelude.{◌≡◌, ◌+◌, nat_lt, map, OnOk, if◌then◌else◌};
 ghost use Rattle.mt_render.specs.Mix.{clips_end};
@@ -10,7 +10,7 @@ use crate::warning_line::append_behind_line;
 use mt_sessionview::{ClipView, MarkerView};
 use std::alloc::{AllocError, Allocator};
 
-// The first frame of the session behind a clip that is not muted; 0 of one that is.
+// The first frame of the session after a clip; 0 if the clip is muted.
 fn clip_end(clip: &ClipView) -> u64
     ensures { result ≡ (if clip.now.mute then 0 else clip.now.at + clip.now.len) }
 {
@@ -21,7 +21,7 @@ fn clip_end(clip: &ClipView) -> u64
     }
 }
 
-/// The first frame of the session behind all of these clips that are not muted.
+/// The first frame of the session after all of these clips that are not muted.
 pub(crate) fn clips_end(clips: &[&ClipView]) -> u64
     ensures { result ≡ clips_end (map (λ c. c.now) clips.now) }
 {
@@ -32,14 +32,14 @@ pub(crate) fn clips_end(clips: &[&ClipView]) -> u64
     end
 }
 
-// Whether a marker stands before the end.
+// Whether a marker is before the end.
 fn is_before<A: Allocator>(marker: &MarkerView<A>, end: u64) -> bool
     ensures { result ≡ nat_lt marker.now.at end }
 {
     u64::from(marker.at) < end
 }
 
-// Writes the line of a marker that does not stand before the end.
+// Appends the line of a marker, if it is at or after the end.
 fn append_behind<A: Allocator, B: Allocator>(
     lines: &mut Lines<A>,
     end: u64,
@@ -54,7 +54,7 @@ fn append_behind<A: Allocator, B: Allocator>(
     lines.count_one()
 }
 
-/// Writes the lines of those of these markers that do not stand before the end.
+/// Appends the lines of those of these markers that are at or after the end.
 pub(crate) fn append_behinds<A: Allocator, B: Allocator>(
     lines: &mut Lines<A>,
     end: u64,

@@ -13,14 +13,14 @@ use mt_op::Digest;
 use mt_render::Catalogue;
 use std::alloc::{AllocError, Allocator};
 
-// Whether a recording has more channels than are put out.
+// Whether a recording has more channels than the output.
 fn has_more(heard: u16, channels: u16) -> bool
     ensures { result ≡ nat_lt heard channels }
 {
     heard < channels
 }
 
-// Writes the line of a recording of so many channels, where they are more than are put out.
+// Appends the line of a recording with this many channels, if the output has fewer.
 fn append_one_channel<A: Allocator, B: Allocator>(
     alloc: &A,
     lines: &mut Lines<B>,
@@ -38,8 +38,8 @@ fn append_one_channel<A: Allocator, B: Allocator>(
     lines.count_one()
 }
 
-// Writes the line of the recording of a digest, where that is there and has more channels than are
-// put out.
+// Appends the line of the recording of a digest, if it is in the catalogue and has more channels
+// than the output.
 fn append_one_channel_of<A: Allocator, B: Allocator, C: Allocator>(
     alloc: &A,
     lines: &mut Lines<B>,
@@ -56,7 +56,7 @@ fn append_one_channel_of<A: Allocator, B: Allocator, C: Allocator>(
     }
 }
 
-/// Writes the lines of the recordings of these digests that have more channels than are put out.
+/// Appends the lines of the recordings of these digests that have more channels than the output.
 pub(crate) fn append_one_channels<A: Allocator, B: Allocator, C: Allocator>(
     alloc: &A,
     lines: &mut Lines<B>,

@@ -7,7 +7,7 @@ ghost use Rattle.text_check.specs.Played.{all_clips};
 use mt_sessionview::{ClipView, TrackView};
 use std::alloc::{AllocError, Allocator};
 
-// Puts the clips of a track behind others.
+// Appends the clips of a track to others.
 fn push_all<'a, A: Allocator>(
     clips: &'a [ClipView],
     all: &mut Vec<&'a ClipView, A>,
@@ -21,7 +21,7 @@ fn push_all<'a, A: Allocator>(
     Ok(())
 }
 
-// Puts a clip behind others, unless it is muted.
+// Appends a clip to others, unless it is muted.
 fn push_unless_muted<'a, A: Allocator>(
     clip: &'a ClipView,
     all: &mut Vec<&'a ClipView, A>,
@@ -36,7 +36,7 @@ fn push_unless_muted<'a, A: Allocator>(
     Ok(())
 }
 
-// Puts those of the clips of a track behind others that are not muted.
+// Appends those clips of a track that are not muted to others.
 fn push_unmuted<'a, A: Allocator>(
     clips: &'a [ClipView],
     all: &mut Vec<&'a ClipView, A>,
@@ -50,7 +50,7 @@ fn push_unmuted<'a, A: Allocator>(
     Ok(())
 }
 
-// The clips of a track that is not muted; none of one that is.
+// The clips of a track; none if the track is muted.
 fn unless_muted<A: Allocator>(track: &TrackView<A>) -> &[ClipView]
     ensures { result.now ≡ (if track.now.mute then [] else track.now.clips) }
 {
@@ -71,7 +71,7 @@ pub(crate) fn all_clips<'a, A: Allocator, B: Allocator>(
     Ok(all)
 }
 
-/// References to the clips that are not muted, on tracks that are not.
+/// References to the clips that are not muted, on tracks that are not muted.
 pub(crate) fn audible_clips<'a, A: Allocator, B: Allocator>(
     alloc: B,
     tracks: &'a [TrackView<A>],

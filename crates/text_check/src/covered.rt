@@ -11,7 +11,7 @@ use crate::warning_line::append_covered_line;
 use mt_sessionview::{ClipView, TrackView};
 use std::alloc::{AllocError, Allocator};
 
-// Writes the line of a clip that is not muted and not on top.
+// Appends the line of a clip, if it is neither muted nor on top.
 fn append_covered<A: Allocator>(
     lines: &mut Lines<A>,
     clip: &ClipView,
@@ -27,7 +27,7 @@ fn append_covered<A: Allocator>(
     lines.count_one()
 }
 
-// Writes the lines of the clips of a track that are covered.
+// Appends the lines of the covered clips of a track, given which clips are on top.
 fn append_covered_among<A: Allocator>(
     lines: &mut Lines<A>,
     clips: &[ClipView],
@@ -42,7 +42,7 @@ fn append_covered_among<A: Allocator>(
     Ok(())
 }
 
-// Writes the lines of the clips of a track that are covered; none of one that is muted.
+// Appends the lines of the covered clips of a track; none if the track is muted.
 fn append_covered_on<A: Allocator + Clone, B: Allocator, C: Allocator>(
     alloc: &A,
     lines: &mut Lines<B>,
@@ -59,7 +59,7 @@ fn append_covered_on<A: Allocator + Clone, B: Allocator, C: Allocator>(
     Ok(())
 }
 
-/// Writes the lines of the clips that are covered, track by track.
+/// Appends the lines of the covered clips, track by track.
 pub(crate) fn append_all_covered<A: Allocator + Clone, B: Allocator, C: Allocator>(
     alloc: &A,
     lines: &mut Lines<B>,

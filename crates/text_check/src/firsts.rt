@@ -12,7 +12,7 @@ use mt_op::Digest;
 use std::alloc::{AllocError, Allocator};
 use std::collections::BTreeMap;
 
-/// The first of these files that is the recording of each digest.
+/// The first of these files with the recording of each digest.
 pub(crate) fn first_files<'a, A: Allocator + Clone>(
     alloc: A,
     files: &[Given<'a>],
@@ -28,7 +28,7 @@ pub(crate) fn first_files<'a, A: Allocator + Clone>(
     Ok(firsts)
 }
 
-// The recording that a file is, if it is one.
+// The recording of a file, if the file is a wave file.
 fn recording_in(file: &Given<'_>) -> Option<Recording>
     ensures { result ≡ wave_of file.now.recording }
 {
@@ -38,7 +38,7 @@ fn recording_in(file: &Given<'_>) -> Option<Recording>
     }
 }
 
-// Keeps a file, unless one is there under its digest.
+// Keeps a file, unless there is one under its digest already.
 fn keep_first<'a, A: Allocator + Clone>(
     firsts: &mut BTreeMap<Digest, Found<'a>, A>,
     name: &'a str,

@@ -8,26 +8,25 @@ use mt_bwfread::{Wave, WaveFault};
 use mt_op::Digest;
 use std::marker::Model;
 
-/// What a wave file says of itself that a session has to know.
+/// The properties of a wave file that a session needs.
 #[derive(Clone, Copy, Debug, PartialEq, Eq)]
 pub struct Recording {
     /// The SHA-256 of the file, by which clips name it.
     pub digest: Digest,
-    /// Its frames a second, 1 or more.
+    /// Frames per second, 1 or more.
     pub rate: u32,
-    /// Its channels, 1 or more.
+    /// Number of channels, 1 or more.
     pub channels: u16,
-    /// Its frames, below 2^32.
+    /// Length in frames, below 2^32.
     pub frames: u64,
 }
 
-/// A file that is given as a recording: its name, and the recording that it is, or why it is no
-/// wave file.
+/// A file that is given as a recording: its name, and its recording, or why it is not a wave file.
 #[derive(Drop)]
 pub struct Given<'a> {
     /// The name, as it is printed.
     pub name: &'a str,
-    /// What the file is.
+    /// The recording of the file, or the fault of a file that is not a wave file.
     pub recording: Result<Recording, WaveFault>,
 }
 
@@ -39,7 +38,7 @@ impl<'a> Model for Given<'a> {
     ghost view = { λ g. record { name = g.name.now; recording = g.recording } };
 }
 
-// What these bytes are.
+// The recording of these bytes, or why they are not a wave file.
 fn recording_of(bytes: &[u8]) -> Result<Recording, WaveFault>
     ensures { result ≡ recording_of bytes.now (fault_of bytes.now) }
 {
@@ -54,8 +53,8 @@ fn recording_of(bytes: &[u8]) -> Result<Recording, WaveFault>
     }
 }
 
-/// A file of this name and these bytes, which are read once for their SHA-256, and are not kept.
-/// Takes no memory.
+/// A file of this name and these bytes. The bytes are read once for their SHA-256, and are not
+/// kept. Allocates nothing.
 pub fn describe<'a>(name: &'a str, bytes: &[u8]) -> Given<'a>
     ensures { result ≡ described name.now bytes.now }
 {

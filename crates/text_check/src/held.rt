@@ -18,7 +18,7 @@ use mt_stamp::Stamp;
 use session_state::{ItemStates, items_of_ready};
 use std::alloc::{AllocError, Allocator};
 
-// The need of an operation at place `index`, where no noted operation meets it.
+// The need of an operation at place `index`, if no applied operation meets it.
 fn unmet_at<A: Allocator, B: Allocator>(
     items: &ItemStates<A>,
     op: &Op<B>,
@@ -33,7 +33,7 @@ fn unmet_at<A: Allocator, B: Allocator>(
     }
 }
 
-// The first need of an operation that no noted operation meets.
+// The first need of an operation that no applied operation meets.
 fn first_unmet<A: Allocator, B: Allocator>(items: &ItemStates<A>, op: &Op<B>) -> Option<Need>
     ensures { result ≡ first_unmet items.now (needs op.now) }
 {
@@ -45,7 +45,7 @@ fn first_unmet<A: Allocator, B: Allocator>(items: &ItemStates<A>, op: &Op<B>) ->
     None
 }
 
-// Writes the line of an operation that has an unmet need.
+// Appends the line of an operation with its unmet need, if it has one.
 fn append_waiting<A: Allocator>(
     lines: &mut Lines<A>,
     stamp: Stamp,
@@ -60,7 +60,7 @@ fn append_waiting<A: Allocator>(
     lines.count_one()
 }
 
-// Writes the line of an operation that has a need that no noted operation meets.
+// Appends the line of an operation, if no applied operation meets one of its needs.
 fn append_held_of<A: Allocator, B: Allocator, C: Allocator>(
     lines: &mut Lines<A>,
     items: &ItemStates<B>,
@@ -71,7 +71,7 @@ fn append_held_of<A: Allocator, B: Allocator, C: Allocator>(
     append_waiting(lines, op.stamp(), first_unmet(items, op))
 }
 
-// Writes the lines of those of these operations that have a need that no noted operation meets.
+// Appends the lines of those of these operations that have a need which no applied operation meets.
 fn append_held_among<A: Allocator, B: Allocator, C: Allocator>(
     lines: &mut Lines<A>,
     items: &ItemStates<B>,
@@ -86,7 +86,7 @@ fn append_held_among<A: Allocator, B: Allocator, C: Allocator>(
     Ok(())
 }
 
-/// Writes the lines of the operations of a log that are held.
+/// Appends the lines of the held operations of a log.
 pub(crate) fn append_held<A: Allocator + Clone, B: Allocator>(
     alloc: &A,
     lines: &mut Lines<B>,
@@ -94,7 +94,7 @@ pub(crate) fn append_held<A: Allocator + Clone, B: Allocator>(
 ) -> Result<(), AllocError>
     ensures { OnOk result (lines.new ≡ with_lines lines.old (held_lines (operations log.now))) }
 {
-    // for the proof: that the dots of a log's operations differ
+    // for the proof: the dots of a log's operations differ
     let _ = log.runs();
     let sorted = sorted_ops(alloc.clone()?, log)?;
     let Ok(items) = items_of_ready(alloc.clone()?, &sorted) else {

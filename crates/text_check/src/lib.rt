@@ -1,5 +1,5 @@
-//! What is to be known of a session before it is rendered: which recordings it wants, which of the
-//! files at hand these are, and what sounds otherwise than one may think.
+//! Checks of a session before it is rendered: which recordings it needs, which of the available
+//! files these are, and what may sound otherwise than expected.
 //!
 //! ```rust
 //! use text_check::{Listing, describe, sources_text};
@@ -22,12 +22,11 @@
 //! }
 //! ```
 //!
-//! A file is described by `describe`, which reads its bytes and keeps none of them: so as many
-//! recordings can be looked at as there are, one after another. `specs/SourcesText.antt` is the
-//! text.
+//! A file is described by `describe`, which reads its bytes and keeps none of them, so any number
+//! of recordings can be described one after another. `specs/SourcesText.antt` defines the text.
 //!
-//! `warnings_text` looks at a session, at the log that it is of, and at a catalogue of its
-//! recordings, as a mix of mt_render is made of them:
+//! `warnings_text` checks a session together with its log and a catalogue of its recordings, as for
+//! a mix of mt_render:
 //!
 //! ```rust
 //! use text_check::warnings_text;
@@ -54,7 +53,7 @@
 //! }
 //! ```
 //!
-//! `specs/WarningsText.antt` is that text, and `laws` says what a line stands for.
+//! `specs/WarningsText.antt` defines this text, and `laws` says what a line means.
 #![tactic(auto)]
 
 mod audible;

@@ -5,7 +5,7 @@ ghost use Rattle.std.specs.Prelude.{◌≡◌, ◌+◌, [], OnOk};
 use std::alloc::{AllocError, Allocator};
 use std::marker::Model;
 
-/// Lines of a text, one after another, and how many they are.
+/// Lines of a text, one after another, and their number.
 #[derive(Drop)]
 pub(crate) struct Lines<A: Allocator> {
     pub(crate) text: String<A>,
@@ -22,7 +22,7 @@ impl<A: Allocator> Model for Lines<A> {
 }
 
 impl<A: Allocator> Lines<A> {
-    /// No line. Takes no memory.
+    /// No lines. Allocates nothing.
     pub(crate) fn new(alloc: A) -> Lines<A>
         ensures { result ≡ record { text = []; count = 0 } }
     {
@@ -32,8 +32,8 @@ impl<A: Allocator> Lines<A> {
         }
     }
 
-    /// Counts a line that was written. Refused for want of memory where there are more than a
-    /// number counts.
+    /// Counts a line that was written. Fails, as if out of memory, if the count does not fit into
+    /// 64 bits.
     pub(crate) fn count_one(&mut self) -> Result<(), AllocError>
         ensures { OnOk result (self.new ≡ record { text = self.old.text; count = self.old.count
             + 1 }) }

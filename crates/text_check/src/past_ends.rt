@@ -1,4 +1,4 @@
-//! Clips that go past the ends of their recordings.
+//! Clips that continue past the ends of their recordings.
 
 ghost use Rattle.std.specs.Prelude.{◌≡◌, ◌+◌, nat_lt, map, OnOk};
 ghost use Rattle.mt_render.specs.Sources.{found};
@@ -12,21 +12,21 @@ use mt_render::Catalogue;
 use mt_sessionview::ClipView;
 use std::alloc::{AllocError, Allocator};
 
-// The first frame of its recording behind what a clip plays.
+// The first frame of its recording after the part that a clip plays.
 fn end_of(clip: &ClipView) -> u64
     ensures { result ≡ clip.now.offset + clip.now.len }
 {
     u64::from(clip.offset) + u64::from(clip.len)
 }
 
-// Whether that is more than so many frames.
+// Whether a clip continues past this many frames of its recording.
 fn goes_past(clip: &ClipView, frames: u64) -> bool
     ensures { result ≡ nat_lt frames (clip.now.offset + clip.now.len) }
 {
     frames < end_of(clip)
 }
 
-// Writes the line of a clip whose recording has so many frames, where it goes past them.
+// Appends the line of a clip whose recording has this many frames, if it continues past them.
 fn append_past_end<A: Allocator>(
     lines: &mut Lines<A>,
     clip: &ClipView,
@@ -42,7 +42,8 @@ fn append_past_end<A: Allocator>(
     lines.count_one()
 }
 
-// Writes the line of a clip that goes past the end of its recording, where that is there.
+// Appends the line of a clip that continues past the end of its recording, if the recording is in
+// the catalogue.
 fn append_past_end_of<A: Allocator, B: Allocator>(
     lines: &mut Lines<A>,
     catalogue: &Catalogue<'_, B>,
@@ -57,7 +58,7 @@ fn append_past_end_of<A: Allocator, B: Allocator>(
     }
 }
 
-/// Writes the lines of those of these clips that go past the ends of their recordings.
+/// Appends the lines of those of these clips that continue past the ends of their recordings.
 pub(crate) fn append_past_ends<A: Allocator, B: Allocator>(
     lines: &mut Lines<A>,
     catalogue: &Catalogue<'_, B>,

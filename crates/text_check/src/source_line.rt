@@ -1,4 +1,4 @@
-//! The lines on the recordings of a session.
+//! The lines about the recordings of a session.
 
 ghost use Rattle.std.specs.Prelude.{◌≡◌, ◌++◌, ◌∷◌, [], Some, OnOk, codes};
 ghost use Rattle.std.specs.Fmt.{decimal};
@@ -15,7 +15,7 @@ use base_text::{append_number, append_word};
 use mt_op::{Digest, append_digest};
 use std::alloc::{AllocError, Allocator};
 
-// Writes what was found of a recording that is there.
+// Appends the properties of a recording, and the name of its file.
 fn append_recording<A: Allocator>(text: &mut String<A>, found: &Found) -> Result<(), AllocError>
     ensures { OnOk result (string_bytes text.new ≡ string_bytes text.old
         ++ found_text (Some found.now)) }
@@ -27,7 +27,7 @@ fn append_recording<A: Allocator>(text: &mut String<A>, found: &Found) -> Result
     Ok(())
 }
 
-// Writes ` rate N channels N frames N file NAME` or ` missing`.
+// Appends ` rate N channels N frames N file NAME` or ` missing`.
 fn append_found<A: Allocator>(text: &mut String<A>, found: Option<&Found>) -> Result<(), AllocError>
     ensures { OnOk result (string_bytes text.new ≡ string_bytes text.old
         ++ found_text (option_copied found.entry)) }
@@ -38,7 +38,8 @@ fn append_found<A: Allocator>(text: &mut String<A>, found: Option<&Found>) -> Re
     }
 }
 
-/// Writes `source DIGEST clips N audible N end N`, what was found, and a line feed.
+/// Appends `source DIGEST clips N audible N end N`, then the found file or ` missing`, and a line
+/// feed.
 pub(crate) fn append_source_line<A: Allocator, B: Allocator>(
     alloc: &A,
     text: &mut String<B>,
@@ -58,7 +59,7 @@ pub(crate) fn append_source_line<A: Allocator, B: Allocator>(
     Ok(())
 }
 
-/// Writes `unused DIGEST file NAME` and a line feed, where no clip plays the recording.
+/// Appends `unused DIGEST file NAME` and a line feed, if no clip plays the recording.
 pub(crate) fn append_unused_line<A: Allocator, B: Allocator>(
     alloc: &A,
     text: &mut String<B>,
@@ -77,7 +78,7 @@ pub(crate) fn append_unused_line<A: Allocator, B: Allocator>(
     text.push_str("\n")
 }
 
-/// Writes `refused N file NAME` and a line feed.
+/// Appends `refused N file NAME` and a line feed.
 pub(crate) fn append_refused_line<A: Allocator>(
     text: &mut String<A>,
     number: u8,
@@ -92,7 +93,7 @@ pub(crate) fn append_refused_line<A: Allocator>(
     text.push_str("\n")
 }
 
-/// Writes `missing N` and a line feed.
+/// Appends `missing N` and a line feed.
 pub(crate) fn append_missing_line<A: Allocator>(
     text: &mut String<A>,
     count: u64,
@@ -103,7 +104,7 @@ pub(crate) fn append_missing_line<A: Allocator>(
     text.push_str("\n")
 }
 
-/// Writes a digest and a line feed.
+/// Appends a digest and a line feed.
 pub(crate) fn append_digest_line<A: Allocator, B: Allocator>(
     alloc: &A,
     text: &mut String<B>,
@@ -116,7 +117,7 @@ pub(crate) fn append_digest_line<A: Allocator, B: Allocator>(
     text.push_str("\n")
 }
 
-/// Writes the name of a file that was found, and a line feed; nothing where none was.
+/// Appends the name of the found file and a line feed; nothing if no file was found.
 pub(crate) fn append_name_line<A: Allocator>(
     text: &mut String<A>,
     found: Option<&Found>,

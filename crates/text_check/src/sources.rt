@@ -27,8 +27,8 @@ use mt_sessionview::{Session, TrackView};
 use std::alloc::{AllocError, Allocator};
 use std::collections::BTreeMap;
 
-// What is noted of the recordings of a session: the digests that clips name, what is made of each,
-// and its first file.
+// The data about the recordings of a session: the digests that clips name, the use of each, and its
+// first file.
 #[derive(Drop)]
 struct Noted<'a, A: Allocator> {
     named: Vec<Digest, A>,
@@ -36,7 +36,7 @@ struct Noted<'a, A: Allocator> {
     firsts: BTreeMap<Digest, Found<'a>, A>,
 }
 
-// Notes the recordings of these tracks, and the first file of each.
+// Collects the data about the recordings of these tracks and their first files.
 fn note<'a, A: Allocator + Clone, B: Allocator>(
     alloc: &A,
     tracks: &[TrackView<B>],
@@ -53,7 +53,7 @@ fn note<'a, A: Allocator + Clone, B: Allocator>(
     })
 }
 
-// Writes the lines of these digests.
+// Appends the lines of these digests.
 fn append_source_lines<A: Allocator, B: Allocator>(
     alloc: &A,
     text: &mut String<B>,
@@ -72,7 +72,7 @@ fn append_source_lines<A: Allocator, B: Allocator>(
     Ok(())
 }
 
-// Writes the line of a file that no clip plays, or that is no wave file.
+// Appends the line of a file, if no clip plays it or it is not a wave file.
 fn append_other_line<A: Allocator, B: Allocator>(
     alloc: &A,
     text: &mut String<B>,
@@ -91,7 +91,7 @@ fn append_other_line<A: Allocator, B: Allocator>(
     }
 }
 
-// Writes the lines of these files.
+// Appends the lines of these files.
 fn append_other_lines<A: Allocator, B: Allocator>(
     alloc: &A,
     text: &mut String<B>,
@@ -107,7 +107,7 @@ fn append_other_lines<A: Allocator, B: Allocator>(
     Ok(())
 }
 
-// Puts a digest behind others, where no file has it.
+// Appends a digest to others, if no file has it.
 fn push_absent<A: Allocator>(
     firsts: &BTreeMap<Digest, Found<'_>, A>,
     digest: Digest,
@@ -139,7 +139,7 @@ fn missing_of<A: Allocator + Clone>(
     Ok(missing)
 }
 
-// Writes these digests, a line each.
+// Appends these digests, a line each.
 fn append_digests<A: Allocator, B: Allocator>(
     alloc: &A,
     text: &mut String<B>,
@@ -154,7 +154,7 @@ fn append_digests<A: Allocator, B: Allocator>(
     Ok(())
 }
 
-// Writes the name of the first file of a digest, if there is one.
+// Appends the name of the first file of a digest, if there is one.
 fn append_name_of<A: Allocator, B: Allocator>(
     text: &mut String<B>,
     firsts: &BTreeMap<Digest, Found<'_>, A>,
@@ -166,7 +166,7 @@ fn append_name_of<A: Allocator, B: Allocator>(
     append_name_line(text, firsts.get(&digest))
 }
 
-// Writes the names of the first files of these digests, a line each.
+// Appends the names of the first files of these digests, a line each.
 fn append_names<A: Allocator, B: Allocator>(
     text: &mut String<B>,
     named: &[Digest],
@@ -181,7 +181,7 @@ fn append_names<A: Allocator, B: Allocator>(
     Ok(())
 }
 
-// Writes the whole text.
+// Appends the whole text.
 fn append_all<A: Allocator + Clone, B: Allocator, C: Allocator>(
     alloc: &A,
     text: &mut String<B>,
@@ -210,7 +210,7 @@ fn named_of<A: Allocator + Clone, B: Allocator>(
     named_by(alloc.clone()?, &clips)
 }
 
-// Writes the digests that are missing.
+// Appends the digests of missing recordings.
 fn append_missing<A: Allocator + Clone, B: Allocator, C: Allocator>(
     alloc: &A,
     text: &mut String<B>,
@@ -227,7 +227,7 @@ fn append_missing<A: Allocator + Clone, B: Allocator, C: Allocator>(
     Ok(())
 }
 
-// Writes the names of the first files.
+// Appends the names of the first files.
 fn append_files<A: Allocator + Clone, B: Allocator, C: Allocator>(
     alloc: &A,
     text: &mut String<B>,
@@ -243,7 +243,7 @@ fn append_files<A: Allocator + Clone, B: Allocator, C: Allocator>(
     Ok(())
 }
 
-// Writes what a listing says.
+// Appends the text of a listing.
 fn append_listing<A: Allocator + Clone, B: Allocator, C: Allocator>(
     alloc: &A,
     text: &mut String<B>,
@@ -261,12 +261,12 @@ fn append_listing<A: Allocator + Clone, B: Allocator, C: Allocator>(
     }
 }
 
-/// Which recordings the clips of a session name, and which of the files these are. `All` has a line
-/// for each digest that a clip names, with the first of the files that has it, and one for each
-/// file that no clip plays or that is no wave file; `Missing` has the digests that no file has, and
-/// `Files` the names of the first files. The page on output describes them.
+/// The recordings that the clips of a session name, and which of the files these are. `All` has a
+/// line for each digest that a clip names, with the first file that has it, and a line for each
+/// file that no clip plays or that is not a wave file; `Missing` has the digests that no file has,
+/// and `Files` the names of the first files. The page on output describes them.
 ///
-/// In a time of n log n for n clips and files. Fails where memory runs out.
+/// Takes O(n log n) time for n clips and files. Fails if memory runs out.
 pub fn sources_text<A: Allocator + Clone, B: Allocator>(
     alloc: A,
     listing: Listing,

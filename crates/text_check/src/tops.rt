@@ -1,4 +1,4 @@
-//! Which clips of a track are on top at one of their frames.
+//! Which clips of a track are on top in at least one of their frames.
 
 ghost use Rattle.std.specs.Prelude.{◌≡◌, ◌≢◌, ℕ, ◌<◌, ◌||◌, true, length, IfOk};
 ghost use Rattle.mt_stamp.specs.Sorting.{DifferBy};
@@ -12,7 +12,7 @@ use mt_render::spans_of;
 use mt_sessionview::ClipView;
 use std::alloc::{AllocError, Allocator};
 
-/// The clip of an index.
+/// The clip at an index.
 pub(crate) fn clip_at(clips: &[ClipView], index: usize) -> ClipView
     requires { index < length clips.now }
     ensures { result ≡ clip_at clips.now index }
@@ -20,7 +20,7 @@ pub(crate) fn clip_at(clips: &[ClipView], index: usize) -> ClipView
     clips[index]
 }
 
-// The index of the span that is on top in the segment of an index.
+// The index of the span that is on top in the segment at an index.
 fn which_at(segments: &[Segment], index: usize) -> usize
     requires { index < length segments.now }
     ensures { result ≡ (segment_at segments.now index).which }
@@ -51,7 +51,7 @@ fn mark_all(segments: &[Segment], marks: &mut [bool])
     }
 }
 
-/// Of each clip of a track that is not muted, whether it is on top at one of its frames.
+/// For each clip of a track that is not muted, whether it is on top in at least one of its frames.
 pub(crate) fn tops_of<A: Allocator + Clone>(
     alloc: &A,
     clips: &[ClipView],

@@ -1,4 +1,4 @@
-//! What a session makes of each recording.
+//! How a session uses each recording.
 
 ghost use Rattle.std.specs.Prelude.{◌≡◌, ◌+◌, ◌<◌, ◌^◌, max, map, length, false, IfOk, OnOk};
 ghost use Rattle.mt_op.specs.declared.digest.Digest.{Digest as DigestOf};
@@ -11,24 +11,24 @@ use mt_sessionview::ClipView;
 use std::alloc::{AllocError, Allocator};
 use std::collections::BTreeMap;
 
-/// How many clips of a session play a recording, how many of them are audible, and how far into it
-/// they go.
+/// How many clips of a session play a recording, how many of these are audible, and how far into
+/// the recording they go.
 #[derive(Clone, Copy)]
 pub(crate) struct Use {
     pub(crate) clips: u64,
     pub(crate) audible: u64,
-    /// The first frame of the recording behind all that they play.
+    /// The first frame of the recording after all that these clips play.
     pub(crate) end: u64,
 }
 
-// What is noted of a digest of which nothing is.
+// The use of a digest without clips.
 const NO_USE: Use = Use {
     clips: 0,
     audible: 0,
     end: 0,
 };
 
-/// What is noted of a digest.
+/// The recorded use of a digest.
 pub(crate) fn noted<A: Allocator>(uses: &BTreeMap<Digest, Use, A>, digest: &Digest) -> Use
     ensures { result ≡ noted uses.now digest.now }
 {
@@ -38,7 +38,7 @@ pub(crate) fn noted<A: Allocator>(uses: &BTreeMap<Digest, Use, A>, digest: &Dige
     }
 }
 
-// Notes a clip.
+// Adds a clip to the use of its recording.
 fn note_clip<A: Allocator + Clone>(
     uses: &mut BTreeMap<Digest, Use, A>,
     clip: &ClipView,
@@ -61,7 +61,7 @@ fn note_clip<A: Allocator + Clone>(
     Ok(())
 }
 
-// Notes that a clip is audible.
+// Adds an audible clip to the use of its recording.
 fn note_audible<A: Allocator + Clone>(
     uses: &mut BTreeMap<Digest, Use, A>,
     clip: &ClipView,
@@ -83,7 +83,7 @@ fn note_audible<A: Allocator + Clone>(
     Ok(())
 }
 
-/// The use of each recording by these clips, of which those are audible.
+/// The use of each recording by these clips. `heard` are the audible ones.
 pub(crate) fn uses_by<A: Allocator + Clone>(
     alloc: A,
     clips: &[&ClipView],
@@ -101,7 +101,7 @@ pub(crate) fn uses_by<A: Allocator + Clone>(
     Ok(uses)
 }
 
-/// The digests that these clips name, rising, each once.
+/// The digests that these clips name, in rising order, each once.
 pub(crate) fn named_by<A: Allocator>(
     alloc: A,
     clips: &[&ClipView],
@@ -117,7 +117,7 @@ pub(crate) fn named_by<A: Allocator>(
     Ok(digests)
 }
 
-/// The digest of an index.
+/// The digest at an index.
 pub(crate) fn digest_at(digests: &[Digest], index: usize) -> Digest
     requires { index < length digests.now }
     ensures { result ≡ digest_at digests.now index }

@@ -10,7 +10,7 @@ use mt_op::{Digest, append_digest, append_stamp};
 use mt_stamp::Stamp;
 use std::alloc::{AllocError, Allocator};
 
-/// Writes `past-end CLIP end N frames N` and a line feed.
+/// Appends `past-end CLIP end N frames N` and a line feed.
 pub(crate) fn append_past_end_line<A: Allocator>(
     text: &mut String<A>,
     clip: Stamp,
@@ -26,7 +26,7 @@ pub(crate) fn append_past_end_line<A: Allocator>(
     text.push_str("\n")
 }
 
-/// Writes `covered CLIP` and a line feed.
+/// Appends `covered CLIP` and a line feed.
 pub(crate) fn append_covered_line<A: Allocator>(
     text: &mut String<A>,
     clip: Stamp,
@@ -37,7 +37,7 @@ pub(crate) fn append_covered_line<A: Allocator>(
     text.push_str("\n")
 }
 
-/// Writes `one-channel DIGEST channels N` and a line feed.
+/// Appends `one-channel DIGEST channels N` and a line feed.
 pub(crate) fn append_one_channel_line<A: Allocator, B: Allocator>(
     alloc: &A,
     text: &mut String<B>,
@@ -53,7 +53,7 @@ pub(crate) fn append_one_channel_line<A: Allocator, B: Allocator>(
     Ok(())
 }
 
-/// Writes `behind MARKER at N` and a line feed.
+/// Appends `behind MARKER at N` and a line feed.
 pub(crate) fn append_behind_line<A: Allocator>(
     text: &mut String<A>,
     marker: Stamp,
@@ -66,7 +66,7 @@ pub(crate) fn append_behind_line<A: Allocator>(
     text.push_str("\n")
 }
 
-/// Writes `held STAMP needs STAMP` and a line feed.
+/// Appends `held STAMP needs STAMP` and a line feed.
 pub(crate) fn append_needs_line<A: Allocator>(
     text: &mut String<A>,
     stamp: Stamp,
@@ -79,7 +79,7 @@ pub(crate) fn append_needs_line<A: Allocator>(
     text.push_str("\n")
 }
 
-/// Writes `warnings N` and a line feed.
+/// Appends `warnings N` and a line feed.
 pub(crate) fn append_warnings_line<A: Allocator>(
     text: &mut String<A>,
     count: u64,

@@ -1,4 +1,4 @@
-//! What sounds otherwise than one may think, as text.
+//! The text of warnings about what may sound otherwise than expected.
 
 ghost use Rattle.std.specs.Prelude.{◌≡◌, IfOk, OnOk};
 ghost use Rattle.std.specs.String.{string_bytes};
@@ -21,7 +21,7 @@ use mt_render::{Catalogue, Format};
 use mt_sessionview::{MarkerView, Session, TrackView};
 use std::alloc::{AllocError, Allocator};
 
-// Writes all lines but the last.
+// Appends all lines but the last.
 fn append_lines<A: Allocator + Clone, B: Allocator, C: Allocator, D: Allocator>(
     alloc: &A,
     lines: &mut Lines<B>,
@@ -63,14 +63,14 @@ fn text_of<A: Allocator + Clone, C: Allocator, D: Allocator>(
     Ok(text)
 }
 
-/// What sounds otherwise than one may think where a session is put out in a format, its clips
-/// playing the recordings of a catalogue: a line for each clip past its recording's end, each that
-/// is covered, each recording of which some channels are not heard, each marker at or after the
-/// end, and each operation that is held; last `warnings N`. The page on output describes them. Of a
-/// recording that is not in the catalogue nothing is said.
+/// The warnings about what may sound otherwise than expected when a session is rendered in a format
+/// from the recordings of a catalogue: a line for each clip past its recording's end, each covered
+/// clip, each recording of which some channels are not heard, each marker at or after the end, and
+/// each held operation; last `warnings N`. The page on output describes them. A recording that is
+/// not in the catalogue has no warnings.
 ///
-/// In a time of n log n for n clips, markers and operations, and the tags that these list. Fails
-/// where memory runs out.
+/// Takes O(n log n) time for n clips, markers and operations, and the tags that these list. Fails
+/// if memory runs out.
 pub fn warnings_text<A: Allocator + Clone, B: Allocator, C: Allocator>(
     alloc: A,
     log: &Log<A>,

@@ -5,7 +5,7 @@ use Rattle.mt_opcodec.specs.LogValue.{LogMap}
 use Rattle.mt_sessionview.specs.SessionText.{newline}
 use Rattle.text_diff.specs.Beside.{alone, shared, conflicting}
 
--- a word and a number behind it, `WORD N`
+-- a word and a number, `WORD N`
 abbrev pub counted : List ℕ → ℕ → List ℕ
 counted name number = name ++ decimal number
 
@@ -16,8 +16,8 @@ counts_line left right both conflicts =
         ++ (counted (codes " both ") both ++ (counted (codes " clashes ") conflicts ++ newline
         ∷ [])))
 
--- the last line of two logs: a dot that names two operations is counted once, and neither of these
--- in another number
+-- the last line for two logs: a dot that names two operations is counted once, under `clashes`, and
+-- in no other number
 abbrev pub last_line : LogMap → LogMap → List ℕ
 last_line left right =
     counts_line (length (alone left right)) (length (alone right left)) (length (shared left right))

@@ -1,7 +1,6 @@
--- How two logs are written beside each other (profile): a line for each operation that one of them
--- alone has, and for both operations of a dot that names another one in each, by rising stamp;
--- where it is asked for, one for each field that both write; and one for how many operations there
--- are.
+-- The text of the comparison of two logs (profile): a line for each operation that only one of them
+-- has, and for both operations of a dot that names different ones, by rising stamp; if requested, a
+-- line for each field that both logs write; and a line with the numbers of operations.
 use Rattle.std.specs.Prelude.{ℕ, List, [], ◌∷◌, ◌++◌, codes, if◌then◌else◌}
 use Rattle.std.specs.List.{flat_map}
 use Rattle.mt_stamp.specs.Texts.{stamp_text}
@@ -13,8 +12,8 @@ use Rattle.text_diff.specs.Beside.{Told, told, alone}
 use Rattle.text_diff.specs.Counts.{last_line}
 use Rattle.text_diff.specs.Fields.{field_word, both_wrote}
 
--- what stands before an operation that only the left log has, that only the right log has, and that
--- is one of two of a dot
+-- the mark before an operation that only the left log has, that only the right log has, or that is
+-- one of two under one dot
 abbrev pub mark : Told → List ℕ
 mark t = if t.conflicts then codes "! " else if t.right then codes "+ " else codes "- "
 
@@ -31,8 +30,8 @@ both_line b = codes "both" ++ (word (stamp_text b.item)
 abbrev pub diff_text : LogMap → LogMap → List ℕ
 diff_text left right = flat_map told_line (told left right) ++ last_line left right
 
--- the same, with the fields that operations of the left log alone and operations of the right log
--- alone both write
+-- the comparison, with the fields that operations of the left log only and operations of the right
+-- log only both write
 abbrev pub diff_text_with_fields : LogMap → LogMap → List ℕ
 diff_text_with_fields left right =
     flat_map told_line (told left right) ++ (flat_map both_line

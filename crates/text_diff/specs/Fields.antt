@@ -1,5 +1,4 @@
--- The fields that operations of two logs both write (profile): those that a merge of the logs
--- decides.
+-- The fields that operations of both logs write (profile): those that a merge of the logs decides.
 use Rattle.std.specs.Prelude.{ℕ, Bool, false, ◌==◌, ◌&&◌, List, [], ◌∷◌, map, Option, Some, None}
 use Rattle.std.specs.Prelude.{codes, if◌then◌else◌}
 use Rattle.std.specs.List.{flat_map, filter_map, find}
@@ -43,7 +42,7 @@ field_word field.Position = codes "position"
 field_word field.Fades = codes "fades"
 field_word field.MarkerLength = codes "length"
 
--- the field that a value is of
+-- the field of a value
 abbrev pub field_of : Value → Field
 field_of (value.Title title) = field.Title
 field_of (value.GainWritten gain) = field.Gain
@@ -58,14 +57,14 @@ field_of (value.MarkerLength len) = field.MarkerLength
 
 -- ---- writes
 
--- a write is told by its item, its field, and the stamp of the operation that writes
+-- a write is reported by its item, its field, and the stamp of the operation that writes
 abbrev pub field_write : Stamp → Stamp → Field → FieldWrite
 field_write item by which = record { item = item; field = which; by = by }
 
 abbrev pub as_field_write : Stamp → Write Value → FieldWrite
 as_field_write by w = field_write w.item by (field_of w.value)
 
--- what an operation writes
+-- the writes of an operation
 abbrev pub writes_in : Op → List FieldWrite
 writes_in o = map (as_field_write o.stamp) (writes o.stamp o.act)
 
@@ -78,39 +77,39 @@ abbrev pub write_cmp : FieldWrite → FieldWrite → Ordering
 write_cmp a b = ordering_then (stamp_cmp a.item b.item)
     (ordering_then (nat_cmp (rank a.field) (rank b.field)) (stamp_cmp a.by b.by))
 
--- whether two write one field of one item
+-- whether two writes are of one field of one item
 abbrev pub is_same_field : FieldWrite → FieldWrite → Bool
 is_same_field a b = stamp_eq a.item b.item && (rank a.field == rank b.field)
 
 -- ---- the last writes
 
--- whether the first of these writes the same field
+-- whether the first of these writes is of the same field
 abbrev pub is_followed : FieldWrite → List FieldWrite → Bool
 is_followed w [] = false
 is_followed w (v ∷ ws) = is_same_field w v
 
--- of writes in order the last one of each field
+-- the last one of sorted writes of each field
 abbrev pub last_of_each : List FieldWrite → List FieldWrite
 last_of_each [] = []
 last_of_each (w ∷ ws) = if is_followed w ws then last_of_each ws else w ∷ last_of_each ws
 
--- the writes of these operations that no other one of these outdoes: of each field the one with the
--- greatest stamp, by item and then by field
+-- the last writes of these operations: of each field the write with the greatest stamp, by item and
+-- then by field
 abbrev pub last_writes : List Op → List FieldWrite
 last_writes ops = last_of_each (sort_by write_cmp (flat_map writes_in ops))
 
 -- ---- the fields that both write
 
--- the field of a left write, which a right one writes too, and the stamps of both
+-- the field of a left write and of a right write, if there is one, with the stamps of both
 abbrev pub both_of : FieldWrite → Option FieldWrite → Option BothWrote
 both_of w None = None
 both_of w (Some v) = Some (record { item = w.item; field = w.field; left = w.by; right = v.by })
 
--- where the last writes of the right log have one of the same field
+-- the field of a left write, if the last right writes have one of the same field
 abbrev pub also_in : List FieldWrite → FieldWrite → Option BothWrote
 also_in rights w = both_of w (find (is_same_field w) rights)
 
--- each field that operations of the one list and of the other write, with the greatest stamp of
--- either, by item and then by field
+-- each field that operations of both lists write, with the greatest stamp in each list, by item and
+-- then by field
 abbrev pub both_wrote : List Op → List Op → List BothWrote
 both_wrote lefts rights = filter_map (also_in (last_writes rights)) (last_writes lefts)

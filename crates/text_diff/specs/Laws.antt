@@ -1,4 +1,4 @@
--- What holds of two logs beside each other.
+-- The laws of comparing two logs.
 use Rattle.std.specs.Prelude.{◌≡◌, ◌≢◌, List, [], ◌+◌, not, length, map}
 use Rattle.std.specs.List.{Contains, flat_map}
 use Rattle.std.specs.Ordering.{nat_cmp, ordering_then}
@@ -15,11 +15,12 @@ use Rattle.text_diff.specs.declared.both.BothWrote.{BothWrote}
 use Rattle.text_diff.specs.Beside.{alone, shared, conflicting, Told, told}
 use Rattle.text_diff.specs.Fields.{rank, field_write, writes_in, both_wrote}
 
--- each operation is valid and stored under its own dot: a log, however many operations it has
+-- each operation is valid and stored under its own dot, as in a log, but with any number of
+-- operations
 abbrev pub IsFiled : LogMap → Type 0
 IsFiled log = AreLogged (operations log) × (log_of (operations log) ≡ log)
 
--- A log beside itself: nothing is told, and all its operations are shared.
+-- If a log is compared with itself, no operation is reported, and all its operations are shared.
 abbrev pub SameTellsNothing : Type 0
 SameTellsNothing = (log : LogMap) → IsFiled log → (told log log ≡ [])
     × (shared log log ≡ operations log)
@@ -29,12 +30,12 @@ abbrev pub EachIsCounted : Type 0
 EachIsCounted = (one other : LogMap) → length (alone one other)
     + (length (shared one other) + length (conflicting one other)) ≡ length (operations one)
 
--- the same operation, told of the other log
+-- a reported operation, reported for the other log
 abbrev pub turned : Told → Told
 turned t = record { right = not t.right; conflicts = t.conflicts; op = t.op }
 
--- The other way round the same operations are told, each of the other log; the same ones are
--- shared; and the same dots name two operations.
+-- If the logs are exchanged, the same operations are reported, each for the other log; the same
+-- operations are shared; and the same dots name two operations.
 pub record ExchangeTurns : Type 0 where
   pub tells : (left right : LogMap) (t : Told) → Contains (told left right) t
       → Contains (told right left) (turned t)
@@ -43,8 +44,8 @@ pub record ExchangeTurns : Type 0 where
   pub conflicts : (left right : LogMap) → IsFiled left → IsFiled right
       → map op_dot (conflicting left right) ≡ map op_dot (conflicting right left)
 
--- one of these operations writes the field of the item under this stamp, and none of them does so
--- under a greater one
+-- one of these operations writes the field of the item under this stamp, and none under a greater
+-- one
 pub record IsLastWrite (ops : List Op) (item : Stamp) (which : Field) (by : Stamp) : Type 0 where
   pub written : Contains (flat_map writes_in ops) (field_write item by which)
   pub last : (v : FieldWrite) → Contains (flat_map writes_in ops) v → v.item ≡ item → v.field
@@ -54,8 +55,8 @@ pub record IsLastWrite (ops : List Op) (item : Stamp) (which : Field) (by : Stam
 abbrev pub both_cmp : BothWrote → BothWrote → Ordering
 both_cmp a b = ordering_then (stamp_cmp a.item b.item) (nat_cmp (rank a.field) (rank b.field))
 
--- Of two lists of operations each field that both write is told once, by item and then by field,
--- with the last stamp of either; and no other is told.
+-- Each field that operations of both lists write is reported once, by item and then by field, with
+-- the last stamp of each list; no other field is reported.
 pub record BothAreLast : Type 0 where
   pub rise : (lefts rights : List Op) → RisesStrictly both_cmp (both_wrote lefts rights)
   pub each : (lefts rights : List Op) (b : BothWrote) → Contains (both_wrote lefts rights) b

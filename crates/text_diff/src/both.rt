@@ -1,4 +1,4 @@
-//! The fields that operations of two logs both write.
+//! The fields that operations of both logs write.
 
 ghost use Rattle.std.specs.Prelude.{◌≡◌, map, IfOk};
 ghost use Rattle.std.specs.List.{filter_map, find};
@@ -11,7 +11,7 @@ use mt_op::Op;
 use mt_stamp::Stamp;
 use std::alloc::{AllocError, Allocator};
 
-/// A field of an item that both write, and the greatest stamps with which they do.
+/// A field of an item that both logs write, and the greatest stamp with which each of them does.
 #[derive(Clone, Copy)]
 pub(crate) struct BothWrote {
     pub(crate) item: Stamp,
@@ -20,8 +20,8 @@ pub(crate) struct BothWrote {
     pub(crate) right: Stamp,
 }
 
-// What is told of the field of a left write, where one of the right ones is of it; those rise by
-// item and field.
+// The field of a left write, if one of the right writes is of the same field. The right writes rise
+// by item and field.
 fn also_in(rights: &[FieldWrite], write: &FieldWrite) -> Option<BothWrote>
     requires { RisesStrictly field_cmp rights.now }
     ensures { result ≡ also_in rights.now write.now }
@@ -38,7 +38,7 @@ fn also_in(rights: &[FieldWrite], write: &FieldWrite) -> Option<BothWrote>
     }
 }
 
-// What is told of the left writes.
+// The fields of the left writes that right writes have too.
 fn all_in_both<B: Allocator>(
     alloc: B,
     lefts: &[FieldWrite],
@@ -56,7 +56,7 @@ fn all_in_both<B: Allocator>(
     Ok(both)
 }
 
-/// The fields that operations of the one list and of the other write, by item and then by field.
+/// The fields that operations of both lists write, by item and then by field.
 pub(crate) fn both_wrote<A: Allocator, B: Allocator + Clone>(
     alloc: &B,
     lefts: &[&Op<A>],

@@ -11,7 +11,7 @@ use base_text::append_number;
 use mt_opcodec::Log;
 use std::alloc::{AllocError, Allocator};
 
-// Writes how many operations there are.
+// Appends the line of these numbers of operations.
 fn append_counts<A: Allocator>(
     text: &mut String<A>,
     left: usize,
@@ -29,7 +29,7 @@ fn append_counts<A: Allocator>(
     text.push_str("\n")
 }
 
-// How many operations of a log another one has too.
+// The number of operations of a log that the other one has too.
 fn count_shared<A: Allocator>(log: &Log<A>, other: &Log<A>, parts: &Parts<'_, A>) -> usize
     requires { parts.now ≡ parts_beside log.now other.now }
     ensures { result ≡ length (shared log.now other.now) }
@@ -37,7 +37,7 @@ fn count_shared<A: Allocator>(log: &Log<A>, other: &Log<A>, parts: &Parts<'_, A>
     log.len() - parts.alone.len() - parts.conflicting.len()
 }
 
-/// Writes how many operations of two logs there are. The parts are those of the logs.
+/// Appends the last line, which counts the operations of two logs. The parts are those of the logs.
 pub(crate) fn append_last_line<A: Allocator, B: Allocator>(
     text: &mut String<B>,
     left: &Log<A>,

@@ -14,22 +14,22 @@ pub(crate) enum Field {
     Mute,
     /// The place of a track in the order of tracks.
     TrackPlace,
-    /// The track that a clip is on, and at which frame.
+    /// The track of a clip, and its frame there.
     ClipPlace,
-    /// What a clip plays of its recording.
+    /// The part of its recording that a clip plays.
     Trim,
     /// The recording that a clip plays.
     Source,
-    /// The frame at which a marker stands.
+    /// The frame of a marker.
     Position,
-    /// Over how many frames a clip fades in and out.
+    /// The numbers of frames over which a clip fades in and out.
     Fades,
-    /// How many frames a marker spans.
+    /// The number of frames that a marker spans.
     MarkerLength,
 }
 
 impl Field {
-    /// Its place in the order of fields, from 0.
+    /// The field's place in the order of fields, from 0.
     pub(crate) fn rank(self) -> u8
         ensures { result ≡ rank self }
     {
@@ -47,7 +47,7 @@ impl Field {
         }
     }
 
-    /// Its name.
+    /// The field's name in the text.
     pub(crate) fn word(self) -> &'static str
         ensures { result.now ≡ field_word self }
     {

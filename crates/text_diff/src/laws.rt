@@ -1,29 +1,27 @@
-//! What holds of two logs beside each other: each law is the contract of a function that does
-//! nothing.
+//! The laws of comparing two logs: each is the contract of a function that does nothing.
 
 ghost use Rattle.text_diff.specs.Laws.{SameTellsNothing, EachIsCounted, ExchangeTurns, BothAreLast};
 
-/// Of a log beside itself nothing is told, and all its operations are shared.
+/// If a log is compared with itself, no operation is reported, and all its operations are shared.
 pub fn same_logs()
     ensures { SameTellsNothing }
 {}
 
-/// Each operation of a log is alone, shared, or one of two under its dot, and only one of these:
+/// Each operation of a log is alone, shared, or one of two under its dot, and only one of these, so
 /// the last line counts each once.
 pub fn counts()
     ensures { EachIsCounted }
 {}
 
-/// The other way round the same operations are told, those of the left log of the right one and
-/// those of the right log of the left one; the same ones are shared; and the same dots name two
-/// operations.
+/// If the logs are exchanged, the same operations are reported, those of the left log for the right
+/// one and the reverse; the same operations are shared; and the same dots name two operations.
 pub fn exchanged_logs()
     ensures { ExchangeTurns }
 {}
 
-/// Of two lists of operations each field of an item that both write is told once, by item and then
-/// by field, with the greatest stamps under which operations of the one and of the other write it;
-/// and no other field is told.
+/// Each field of an item that operations of both lists write is reported once, by item and then by
+/// field, with the greatest stamp under which an operation of each list writes it; no other field
+/// is reported.
 pub fn fields_of_both()
     ensures { BothAreLast }
 {}

@@ -1,5 +1,5 @@
-//! Two logs beside each other as text: the operations that one of them alone has, the fields that
-//! both write, or what changes in the session.
+//! The comparison of two logs as text: the operations that only one of them has, the fields that
+//! both write, or the changes in the session.
 //!
 //! ```rust
 //! use text_diff::{diff_text, diff_with_fields_text, view_diff_text};
@@ -41,11 +41,11 @@
 //! }
 //! ```
 //!
-//! Lines stand by rising stamp, and tell what an operation does in the words of a log's text. Where
-//! both logs have an operation of one dot, and these are not the same, both stand there, that of
-//! the left log first where their stamps are one. The last line counts. `specs/DiffText.antt` is
-//! the text, with the fields that both write where it is asked for (`specs/Fields.antt`).
-//! `specs/ViewDiff.antt` is the text of what changes in the session.
+//! Lines are sorted by rising stamp, and describe an operation in the words of `radio log`. If the
+//! logs have different operations under one dot, both are listed, that of the left log first if
+//! their stamps are equal. The last line has the counts. `specs/DiffText.antt` defines the text,
+//! with the fields that both write if they are requested (`specs/Fields.antt`).
+//! `specs/ViewDiff.antt` defines the text of the changes in the session.
 #![tactic(auto)]
 
 mod both;

@@ -12,7 +12,7 @@ use mt_op::append_stamp;
 use std::alloc::{AllocError, Allocator};
 use text_log::append_act;
 
-// What stands before an operation.
+// Appends the mark before an operation.
 fn append_mark<A: Allocator, B: Allocator>(
     text: &mut String<B>,
     told: &Told<'_, A>,
@@ -28,7 +28,7 @@ fn append_mark<A: Allocator, B: Allocator>(
     }
 }
 
-// Writes the line of an operation.
+// Appends the line of an operation.
 fn append_told<A: Allocator, B: Allocator, C: Allocator>(
     alloc: &A,
     text: &mut String<B>,
@@ -43,7 +43,7 @@ fn append_told<A: Allocator, B: Allocator, C: Allocator>(
     text.push_str("\n")
 }
 
-/// Writes the lines of operations, in their order.
+/// Appends the lines of operations, in their order.
 pub(crate) fn append_lines<A: Allocator, B: Allocator, C: Allocator>(
     alloc: &A,
     text: &mut String<B>,
@@ -58,7 +58,7 @@ pub(crate) fn append_lines<A: Allocator, B: Allocator, C: Allocator>(
     Ok(())
 }
 
-// Writes the line of a field that both logs write.
+// Appends the line of a field that both logs write.
 fn append_both<A: Allocator>(text: &mut String<A>, both: &BothWrote) -> Result<(), AllocError>
     ensures { OnOk result (string_bytes text.new ≡ string_bytes text.old ++ both_line both.now) }
 {
@@ -70,7 +70,7 @@ fn append_both<A: Allocator>(text: &mut String<A>, both: &BothWrote) -> Result<(
     text.push_str("\n")
 }
 
-/// Writes the lines of fields that both logs write, in their order.
+/// Appends the lines of fields that both logs write, in their order.
 pub(crate) fn append_both_lines<A: Allocator>(
     text: &mut String<A>,
     all: &[BothWrote],

@@ -1,4 +1,4 @@
-//! The operations of one log, beside another.
+//! The operations of one log, compared with another log.
 
 ghost use Rattle.std.specs.Prelude.{◌≡◌, ◌∷◌, [], map, OnOk, IfOk};
 ghost use Rattle.std.specs.Str.{bytes_eq};
@@ -11,12 +11,12 @@ use mt_opcodec::Log;
 use std::alloc::{AllocError, Allocator};
 use std::marker::Model;
 
-/// The operations of one log that another one has not as they are, by rising dot.
+/// The operations of one log that the other log does not have in the same form, by rising dot.
 #[derive(Drop)]
 pub(crate) struct Parts<'a, A: Allocator> {
-    /// Those under whose dots the other one has nothing.
+    /// Those under whose dots the other log has none.
     pub(crate) alone: Vec<&'a Op<A>, A>,
-    /// Those under whose dots it has another one.
+    /// Those under whose dots the other log has a different operation.
     pub(crate) conflicting: Vec<&'a Op<A>, A>,
 }
 
@@ -30,17 +30,17 @@ impl<'a, A: Allocator> Model for Parts<'a, A> {
         (λ o. o.now) p.conflicting.items } };
 }
 
-// Whether an operation is the one that another log has under its dot.
+// Whether an operation equals the one that another log has under its dot.
 fn is_it<A: Allocator>(op: &Op<A>, there: &Op<A>) -> bool
     ensures { result ≡ bytes_eq (op_text op.now) (op_text there.now) }
 {
-    // for the proof: that both are operations, each with a text of its own
+    // for the proof: both are operations, and each has its own text
     let _ = op.dot();
     let _ = there.dot();
     equal_ops(op, there)
 }
 
-// Puts an operation behind those that another log stands to as it does to this one.
+// Appends an operation to the part to which it belongs by comparison with the other log, if any.
 fn put_beside<'a, A: Allocator>(
     parts: &mut Parts<'a, A>,
     op: &'a Op<A>,
@@ -56,7 +56,7 @@ fn put_beside<'a, A: Allocator>(
     Ok(())
 }
 
-/// Sorts the operations of a log by what another one has under their dots.
+/// Divides the operations of a log by what the other log has under their dots.
 pub(crate) fn parts_of<'a, A: Allocator + Clone>(
     alloc: &A,
     log: &'a Log<A>,

@@ -1,4 +1,4 @@
-//! Two logs beside each other as text.
+//! The comparison of two logs as text.
 
 ghost use Rattle.std.specs.Prelude.{◌≡◌, ◌++◌, IfOk, OnOk};
 ghost use Rattle.std.specs.List.{flat_map};
@@ -16,8 +16,7 @@ use crate::told::told_ops;
 use mt_opcodec::Log;
 use std::alloc::{AllocError, Allocator};
 
-// Writes the lines of the operations that are told, behind what `text` holds. The parts are those
-// of the logs.
+// Appends the lines of the reported operations. The parts are those of the logs.
 fn append_told<A: Allocator + Clone, B: Allocator>(
     alloc: &A,
     text: &mut String<B>,
@@ -35,8 +34,8 @@ fn append_told<A: Allocator + Clone, B: Allocator>(
     append_lines(alloc, text, &all)
 }
 
-// Writes the lines of the fields that operations of the left log alone and operations of the right
-// log alone both write.
+// Appends the lines of the fields that operations of the left log only and operations of the right
+// log only both write.
 fn append_fields<A: Allocator + Clone, B: Allocator>(
     alloc: &A,
     text: &mut String<B>,
@@ -50,7 +49,7 @@ fn append_fields<A: Allocator + Clone, B: Allocator>(
     append_both_lines(text, &both)
 }
 
-// Writes two logs beside each other, behind what `text` holds.
+// Appends the comparison of two logs.
 fn append_diff<A: Allocator + Clone, B: Allocator>(
     alloc: &A,
     text: &mut String<B>,
@@ -66,7 +65,7 @@ fn append_diff<A: Allocator + Clone, B: Allocator>(
     append_last_line(text, left, right, &of_left, &of_right)
 }
 
-// Writes two logs beside each other, with the fields that both write, behind what `text` holds.
+// Appends the comparison of two logs, with the fields that both write.
 fn append_diff_with_fields<A: Allocator + Clone, B: Allocator>(
     alloc: &A,
     text: &mut String<B>,
@@ -83,12 +82,12 @@ fn append_diff_with_fields<A: Allocator + Clone, B: Allocator>(
     append_last_line(text, left, right, &of_left, &of_right)
 }
 
-/// The operations that one of two logs alone has, a line each, by rising stamp: `- STAMP ACT` for
-/// one of the left log, `+ STAMP ACT` for one of the right log, and `! STAMP ACT` for both of those
-/// that have one dot and are not the same. Last `left N right N both N clashes N`. The page on
-/// output describes it.
+/// The operations that only one of two logs has, a line each, by rising stamp: `- STAMP ACT` for
+/// one of the left log, `+ STAMP ACT` for one of the right log, and `! STAMP ACT` for both of two
+/// different operations with one dot. The last line is `left N right N both N clashes N`. The page
+/// on output describes this text.
 ///
-/// In a time of n log n for n operations. Fails where memory runs out.
+/// Takes O(n log n) time for n operations. Fails if memory runs out.
 pub fn diff_text<A: Allocator + Clone>(
     alloc: A,
     left: &Log<A>,
@@ -102,11 +101,11 @@ pub fn diff_text<A: Allocator + Clone>(
 }
 
 /// The text of `diff_text`, and before its last line a line `both ITEM FIELD STAMP STAMP` for each
-/// field of an item that an operation of the left log alone and one of the right log alone both
-/// write: what a merge of the logs decides. The stamps are the greatest with which each of them
-/// writes it. The page on output describes it.
+/// field of an item that an operation of the left log only and one of the right log only both
+/// write: the fields that a merge of the logs decides. The stamps are the greatest with which each
+/// of the logs writes the field. The page on output describes this text.
 ///
-/// In a time of n log n for n operations. Fails where memory runs out.
+/// Takes O(n log n) time for n operations. Fails if memory runs out.
 pub fn diff_with_fields_text<A: Allocator + Clone>(
     alloc: A,
     left: &Log<A>,

@@ -1,4 +1,4 @@
-//! The operations that are told, in order.
+//! The reported operations, in order.
 
 ghost use Rattle.std.specs.Prelude.{◌≡◌, ◌++◌, map, OnOk, IfOk};
 ghost use Rattle.text_diff.specs.Beside.{told_as, told};
@@ -10,8 +10,8 @@ use mt_opcodec::Log;
 use std::alloc::{AllocError, Allocator};
 use std::marker::Model;
 
-/// An operation that is told: of the right log or of the left one, and whether the other log has
-/// another one under its dot.
+/// A reported operation of the left or of the right log, and whether the other log has a different
+/// one under its dot.
 #[derive(Drop)]
 pub(crate) struct Told<'a, A: Allocator> {
     pub(crate) right: bool,
@@ -27,7 +27,7 @@ impl<'a, A: Allocator> Model for Told<'a, A> {
     ghost view = { λ t. record { right = t.right; conflicts = t.conflicts; op = t.op.now } };
 }
 
-// Puts operations behind others that are told.
+// Appends operations to those that are reported.
 fn push_told<'a, A: Allocator, B: Allocator>(
     told: &mut Vec<Told<'a, A>, B>,
     ops: &[&'a Op<A>],
@@ -47,7 +47,7 @@ fn push_told<'a, A: Allocator, B: Allocator>(
     Ok(())
 }
 
-// Puts those of one log behind others.
+// Appends the operations of one log's parts to those that are reported.
 fn push_parts<'a, A: Allocator, B: Allocator>(
     told: &mut Vec<Told<'a, A>, B>,
     parts: &Parts<'a, A>,
@@ -59,8 +59,8 @@ fn push_parts<'a, A: Allocator, B: Allocator>(
     push_told(told, &parts.conflicting, right, true)
 }
 
-/// What is told of two logs, by rising stamp; of two of one stamp that of the left log comes first.
-/// The parts are those of the logs.
+/// The reported operations of two logs, by rising stamp; of two with equal stamps, that of the left
+/// log comes first. The parts are those of the logs.
 pub(crate) fn told_ops<'a, A: Allocator + Clone>(
     alloc: &A,
     left: &Log<A>,
@@ -72,7 +72,7 @@ pub(crate) fn told_ops<'a, A: Allocator + Clone>(
     requires right { of_right.now ≡ parts_beside right.now left.now }
     ensures { IfOk result (λ all. all.items ≡ told left.now right.now) }
 {
-    // for the proof: that the stamps of a log's operations differ
+    // for the proof: the stamps of a log's operations differ
     let _ = left.runs();
     let _ = right.runs();
     let mut all = Vec::new(alloc.clone()?);

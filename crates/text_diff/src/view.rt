@@ -1,4 +1,4 @@
-//! The sessions of two logs beside each other as text.
+//! The comparison of two logs' sessions as text.
 
 ghost use Rattle.std.specs.Prelude.{◌≡◌, ◌++◌, codes, string_bytes, OnOk, IfOk};
 ghost use Rattle.text_diff.specs.Counts.{last_line};
@@ -10,7 +10,7 @@ use crate::view_lines::{append_alone, lines_of, view_text};
 use mt_opcodec::Log;
 use std::alloc::{AllocError, Allocator};
 
-// Writes the lines of one text that another one has not, and the other way round.
+// Appends the lines of each session's text that the other one does not have.
 fn append_lines<A: Allocator + Clone>(
     alloc: &A,
     text: &mut Vec<u8, A>,
@@ -28,7 +28,7 @@ fn append_lines<A: Allocator + Clone>(
     append_alone(alloc, text, b"+ ", &rights, &lefts)
 }
 
-// The line that counts operations.
+// The last line, which counts operations.
 fn count_line<A: Allocator + Clone>(
     alloc: &A,
     left: &Log<A>,
@@ -43,13 +43,13 @@ fn count_line<A: Allocator + Clone>(
     Ok(line)
 }
 
-/// What changes in the session from the left log to the right one, in the lines of a session's
-/// text: first, as `- LINE`, each line of the left session that the right one lacks; then, as `+
-/// LINE`, each line of the right session that the left one lacks, each in its session's order. Last
-/// the last line of `diff_text`. The page on output describes it.
+/// The changes in the session from the left log to the right one, in the lines of a session's text:
+/// first, as `- LINE`, each line of the left session that the right one lacks; then, as `+ LINE`,
+/// each line of the right session that the left one lacks, each in its session's order; then the
+/// last line of `diff_text`. The page on output describes this text.
 ///
-/// In a time of n log n for n operations, the tags that they list, and lines; both texts are in
-/// memory at once. Fails where memory runs out.
+/// Takes O(n log n) time for n operations, the tags that they list, and lines; both texts are in
+/// memory at once. Fails if memory runs out.
 pub fn view_diff_text<A: Allocator + Clone>(
     alloc: A,
     left: &Log<A>,

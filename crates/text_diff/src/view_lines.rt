@@ -36,7 +36,7 @@ pub(crate) fn lines_of<A: Allocator>(alloc: A, text: &[u8]) -> Result<Vec<&[u8],
     text.split(|byte| *byte == b'\n').collect(alloc)
 }
 
-// The same lines, in the order of their bytes.
+// These lines, sorted by their bytes.
 fn sorted_lines<'a, A: Allocator>(
     alloc: A,
     lines: &[&'a [u8]],
@@ -61,7 +61,7 @@ fn is_among(lines: &[&[u8]], line: &[u8]) -> bool
     lines.binary_search(&line).is_ok()
 }
 
-// Writes a line behind a mark.
+// Appends a mark and a line.
 fn append_line<A: Allocator>(
     text: &mut Vec<u8, A>,
     mark: &[u8],
@@ -75,7 +75,7 @@ fn append_line<A: Allocator>(
     Ok(())
 }
 
-// Writes those lines that are not among the others, which are sorted, each behind a mark.
+// Appends those lines that are not among the others, which are sorted, each after a mark.
 fn append_not_among<A: Allocator>(
     text: &mut Vec<u8, A>,
     mark: &[u8],
@@ -95,7 +95,7 @@ fn append_not_among<A: Allocator>(
     Ok(())
 }
 
-/// Writes those lines that are not among the others, each behind a mark.
+/// Appends those lines that are not among the others, each after a mark.
 pub(crate) fn append_alone<A: Allocator + Clone>(
     alloc: &A,
     text: &mut Vec<u8, A>,

@@ -1,4 +1,4 @@
-//! What operations write.
+//! The writes of operations.
 
 ghost use Rattle.std.specs.Prelude.{◌≡◌, ◌++◌, map, drop, OnOk, IfOk};
 ghost use Rattle.std.specs.List.{flat_map};
@@ -19,7 +19,7 @@ pub(crate) struct FieldWrite {
     pub(crate) by: Stamp,
 }
 
-// Puts the writes of these fields of an item behind others.
+// Appends the writes of these fields of an item to others.
 fn push_fields<A: Allocator>(
     all: &mut Vec<FieldWrite, A>,
     item: Stamp,
@@ -38,7 +38,7 @@ fn push_fields<A: Allocator>(
     Ok(())
 }
 
-// Puts the writes of an operation behind others.
+// Appends the writes of an operation to others.
 fn push_writes<A: Allocator, B: Allocator>(
     all: &mut Vec<FieldWrite, B>,
     op: &Op<A>,
@@ -89,7 +89,7 @@ fn push_writes<A: Allocator, B: Allocator>(
     }
 }
 
-// The writes of operations, as they stand.
+// The writes of operations, in the order of the operations.
 fn writes_of<A: Allocator, B: Allocator>(
     alloc: B,
     ops: &[&Op<A>],
@@ -103,7 +103,7 @@ fn writes_of<A: Allocator, B: Allocator>(
     Ok(all)
 }
 
-// The same in order: by item, by field and by the stamp of the operation.
+// The writes of operations, sorted by item, by field, and by the stamp of the operation.
 fn sorted_writes<A: Allocator, B: Allocator>(
     alloc: B,
     ops: &[&Op<A>],
@@ -116,7 +116,7 @@ fn sorted_writes<A: Allocator, B: Allocator>(
     Ok(all)
 }
 
-// Whether the write at this place is of the same field.
+// Whether there is a write at this place and it is of the same field.
 fn is_followed(write: &FieldWrite, writes: &[FieldWrite], place: usize) -> bool
     ensures { result ≡ is_followed write.now (drop place writes.now) }
 {
@@ -126,7 +126,7 @@ fn is_followed(write: &FieldWrite, writes: &[FieldWrite], place: usize) -> bool
     }
 }
 
-// Of writes in order the last one of each field.
+// The last one of the sorted writes of each field.
 fn last_of_each<B: Allocator>(
     alloc: B,
     writes: &[FieldWrite],
@@ -143,7 +143,7 @@ fn last_of_each<B: Allocator>(
     Ok(last)
 }
 
-/// Of what operations write, the last write of each field, by item and then by field.
+/// The last write of each field among the writes of operations, by item and then by field.
 pub(crate) fn last_writes<A: Allocator, B: Allocator + Clone>(
     alloc: &B,
     ops: &[&Op<A>],

@@ -1,4 +1,4 @@
--- Lines as JSON (profile; JSON is RFC 8259): an object a line, with a member for each part.
+-- Lines as JSON (profile; JSON is RFC 8259): one object per line, with a member for each part.
 use Rattle.std.specs.Prelude.{ℕ, ◌^◌, true, false, ◌&&◌, nat_lt, List, [], ◌∷◌, ◌++◌, Option, Some}
 use Rattle.std.specs.Prelude.{None, if◌then◌else◌, codes}
 use Rattle.std.specs.List.{flat_map}
@@ -13,23 +13,23 @@ use Rattle.text_json.specs.declared.slot.Kind.TheVariants.{Plain, Number, Frames
 use Rattle.base_text.specs.Cutting.{newline, lines}
 use Rattle.text_json.specs.Line.{Value, alone, one, pair, rest, all, Part, parts}
 
--- the number below 2^64 that the word is the decimal spelling of: digits alone, and no leading zero
+-- the number below 2^64 whose decimal spelling the word is: only digits, and no leading zero
 unfoldable pub number_of : List ℕ → Option ℕ
 number_of word =
     if nat_lt (digits_value 10 word) (2 ^ 64) && bytes_eq word (decimal (digits_value 10 word))
     then Some (digits_value 10 word)
     else None
 
--- a text, and null where it is no UTF-8
+-- a text as a string, or null if it is not UTF-8
 abbrev pub text_data : List ℕ → Data
 text_data s = if is_utf8 s then string s else null
 
--- a number, and the text where it spells none
+-- a number, or the text if the word does not spell one
 abbrev pub counted_data : Option ℕ → List ℕ → Data
 counted_data (Some n) w = number (unsigned n)
 counted_data None w = text_data w
 
--- what a word says, by its kind
+-- the value of a word, by its kind
 abbrev pub word_data : Kind → List ℕ → Data
 word_data Plain w = text_data w
 word_data Number w = counted_data (number_of w) w
@@ -42,7 +42,7 @@ abbrev pub items_data : Kind → List (List ℕ) → Items
 items_data kind [] = no_items
 items_data kind (w ∷ ws) = item (word_data kind w) (items_data kind ws)
 
--- what a part says
+-- the value of a part
 abbrev pub value_data : Value → Data
 value_data alone = boolean true
 value_data (one kind w) = word_data kind w
@@ -50,7 +50,7 @@ value_data (pair kind v w) = array (items_data kind (v ∷ w ∷ []))
 value_data (rest s) = text_data s
 value_data (all kind ws) = array (items_data kind ws)
 
--- what a member is called: as the part is, and by no letter where that is no UTF-8
+-- the name of a member: that of the part, or the empty name if it is not UTF-8
 abbrev pub called : List ℕ → List ℕ
 called name = if is_utf8 name then name else []
 
@@ -63,7 +63,7 @@ members (p ∷ ps) = member (called p.name) (value_data p.value) (members ps)
 abbrev pub line_data : List ℕ → Data
 line_data line = object (members (parts line))
 
--- its text, and a line feed
+-- the text of a line's object, and a line feed
 abbrev pub json_line : List ℕ → List ℕ
 json_line line = compact_text (line_data line) ++ newline ∷ []
 

@@ -1,5 +1,4 @@
--- A line, part by part (profile): which of its words are keys, and what those that stand behind
--- say.
+-- The parts of a line (profile): which of its words are keys, and the values after them.
 use Rattle.std.specs.Prelude.{ℕ, zero, suc, List, [], ◌∷◌, ◌++◌, length, Option, Some, None}
 use Rattle.std.specs.Prelude.{is_some, if◌then◌else◌, codes}
 use Rattle.std.specs.List.{flat_map}
@@ -14,9 +13,9 @@ use Rattle.text_json.specs.Cutting.{words, spaced}
 use Rattle.text_json.specs.Table.{is_one_of, name_text, slot, plain, key_form, act_slots, signs}
 use Rattle.text_json.specs.Table.{states, sides}
 
--- ---- what a part says
+-- ---- the value of a part
 
--- nothing, one word, two, all that is left as a text, or all words that are left
+-- no word, one word, two words, the rest of the line as a text, or all remaining words
 pub data Value : Type 0 where
   alone : Value
   one : Kind → List ℕ → Value
@@ -24,13 +23,13 @@ pub data Value : Type 0 where
   rest : List ℕ → Value
   all : Kind → List (List ℕ) → Value
 
--- a part of a line: the key that stands before the value, if one does, and what the value is called
+-- a part of a line: the key before the value, if there is one, and the name of the value
 pub record Part : Type 0 where
   pub key : Option (List ℕ)
   pub name : List ℕ
   pub value : Value
 
--- what a slot of this form says at a word, behind which these stand
+-- the value of a slot of this form at a word, before these words
 abbrev pub value_at : Arity → List ℕ → List (List ℕ) → Value
 value_at (One kind) w ws = one kind w
 value_at (Two kind) w [] = one kind w
@@ -38,7 +37,7 @@ value_at (Two kind) w (v ∷ ws) = pair kind w v
 value_at Rest w ws = rest (spaced (w ∷ ws))
 value_at (All kind) w ws = all kind (w ∷ ws)
 
--- how many words it takes behind that one, where there are as many
+-- how many words the slot takes after that one, if there are enough
 abbrev pub more_at : Arity → List (List ℕ) → ℕ
 more_at (One kind) ws = 0
 more_at (Two kind) ws = 1
@@ -47,8 +46,8 @@ more_at (All kind) ws = length ws
 
 -- ---- how a word is read
 
--- What may come next in a line: its beginning, what follows a sign, what follows a stamp, an act,
--- or these slots and then keys.
+-- What may come next in a line: its beginning, the word after a sign, the word after a stamp, an
+-- act, or these slots and then keys.
 pub data Pending : Type 0 where
   begin : Pending
   signed : Pending
@@ -56,32 +55,30 @@ pub data Pending : Type 0 where
   acting : Pending
   due : List Slot → Pending
 
--- the part that begins at a word, how many words it has behind that one, and what may come behind
--- it
+-- the part that begins at a word, how many words it has after that one, and what may come after it
 pub record Reading : Type 0 where
   pub part : Part
   pub more : ℕ
   pub pending : Pending
 
--- a word that begins what a slot takes
+-- a word that is the first of a slot
 abbrev pub slot_reading : Slot → Pending → List ℕ → List (List ℕ) → Reading
 slot_reading s next w ws = record { part = record { key = None; name = name_text s.name; value =
     value_at s.form w ws }; more = more_at s.form ws; pending = next }
 
--- a word that stands alone
+-- a word without a value
 abbrev pub alone_reading : List ℕ → Pending → Reading
 alone_reading w next = record { part = record { key = Some w; name = w; value = alone }; more = 0;
     pending = next }
 
--- a key before a value that is called so, or before the end of the line, where it stands alone
+-- a key before a value of this name; at the end of the line it has no value
 abbrev pub key_reading : List ℕ → Arity → Pending → List ℕ → List (List ℕ) → Reading
 key_reading called form next w [] = alone_reading w next
 key_reading called form next w (v ∷ ws) = record { part = record
     { key = Some w; name = called; value = value_at form v ws }; more = suc (more_at form ws);
     pending = next }
 
--- a word where no slot is left: a key, which the value is called by, or a word that says nothing
--- more
+-- a word after the last slot: a key, which names its value, or a word without a value
 abbrev pub formed_reading : Option Arity → List ℕ → List (List ℕ) → Reading
 formed_reading (Some form) w ws = key_reading w form (due []) w ws
 formed_reading None w ws = alone_reading w (due [])
@@ -89,7 +86,7 @@ formed_reading None w ws = alone_reading w (due [])
 abbrev pub free_reading : List ℕ → List (List ℕ) → Reading
 free_reading w ws = formed_reading (key_form w) w ws
 
--- the slots of an act, and none of any other word
+-- the slots of an act; none of any other word
 abbrev pub slots_or_none : Option (List Slot) → List Slot
 slots_or_none (Some slots) = slots
 slots_or_none None = []
@@ -98,7 +95,7 @@ slots_or_none None = []
 abbrev pub act_reading : List ℕ → List (List ℕ) → Reading
 act_reading w ws = slot_reading (plain name.Act) (due (slots_or_none (act_slots w))) w ws
 
--- The word that a line begins with, or that follows its sign: `both`, another key, or a stamp.
+-- The first word of a line, or the first after its sign: `both`, another key, or a stamp.
 abbrev pub first_reading : List ℕ → List (List ℕ) → Reading
 first_reading w ws =
     if bytes_eq w (codes "both") then key_reading (name_text name.Item) (One Plain) (due sides) w ws
@@ -117,23 +114,23 @@ reading (due (s ∷ slots)) w ws = slot_reading s (due slots) w ws
 
 -- ---- the parts of a line
 
--- the parts of these words, of which the first so many were taken
+-- the parts of these words, of which the first n are part of a value already
 abbrev pub parts_from : ℕ → Pending → List (List ℕ) → List Part
 parts_from n p [] = []
 parts_from zero p (w ∷ ws) = (reading p w ws).part
     ∷ parts_from (reading p w ws).more (reading p w ws).pending ws
 parts_from (suc n) p (w ∷ ws) = parts_from n p ws
 
--- the parts of what is left of a line
+-- the parts of the rest of a line
 abbrev pub parts_of : Pending → List (List ℕ) → List Part
 parts_of p ws = parts_from 0 p ws
 
--- The parts of a line that is printed.
+-- The parts of a printed line.
 abbrev pub parts : List ℕ → List Part
 parts line = parts_of begin (words line)
 
--- What a line of a script may begin with: an act. One that begins otherwise, an empty line or a
--- remark, is one part, whatever it says.
+-- What a line of a script may begin with: an act. A line that begins with anything else, an empty
+-- line or a comment, is one part, whatever it contains.
 abbrev pub script_pending : List (List ℕ) → Pending
 script_pending [] = acting
 script_pending (w ∷ ws) = if is_some (act_slots w) then acting else due (slot name.Line Rest ∷ [])
@@ -144,7 +141,7 @@ script_parts line = parts_of (script_pending (words line)) (words line)
 
 -- ---- the line of parts
 
--- the words of a value, of which a text with its spaces is one
+-- the words of a value; a text with its spaces counts as one word
 abbrev pub value_words : Value → List (List ℕ)
 value_words alone = []
 value_words (one kind w) = w ∷ []

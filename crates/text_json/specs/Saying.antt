@@ -1,4 +1,4 @@
--- Lines of which some words are said otherwise, and all else is as it was (profile).
+-- Lines with some words rewritten, and all else unchanged (profile).
 use Rattle.std.specs.Prelude.{ℕ, ◌+◌, ◌*◌, ◌/◌, ◌^◌, zero, suc, min, nat_lt, nat_le, List, ◌++◌}
 use Rattle.std.specs.Prelude.{map, Option, Some, None, option_map, if◌then◌else◌, codes}
 use Rattle.std.specs.Fmt.{decimal}
@@ -14,7 +14,7 @@ use Rattle.text_json.specs.Line.{Value, alone, one, pair, rest, all, Part, parts
 use Rattle.text_json.specs.Line.{line_of}
 use Rattle.text_json.specs.Json.{number_of}
 
--- ---- lines said otherwise
+-- ---- rewritten lines
 
 module _ (say : Kind → List ℕ → List ℕ) where
   abbrev pub said_value : Value → Value
@@ -27,22 +27,22 @@ module _ (say : Kind → List ℕ → List ℕ) where
   abbrev pub said_part : Part → Part
   said_part p = record { key = p.key; name = p.name; value = said_value p.value }
 
-  -- the line of these parts, with each word said so
+  -- the line of these parts, with each word rewritten
   abbrev pub said_line : List Part → List ℕ
   said_line ps = line_of (map said_part ps)
 
-  -- a text of such lines, with the line feeds that it has
+  -- a text of rewritten lines, with its line feeds
   abbrev pub said_text : (List ℕ → List Part) → List ℕ → List ℕ
   said_text read text = ended (map (λ line. said_line (read line)) (pieces text))
 
 -- ---- times in the place of frames
 
--- how long so many frames last, where they are at most 2^50
+-- the duration of this many frames, if they are at most 2^50; otherwise the word
 abbrev pub time_or_word : ℕ → Option ℕ → List ℕ → List ℕ
 time_or_word rate (Some n) w = if nat_le n (2 ^ 50) then time_text rate n else w
 time_or_word rate None w = w
 
--- A position or a length as a time, and every other word as it is.
+-- A position or a length as a time, and every other word unchanged.
 abbrev pub timed_word : ℕ → Kind → List ℕ → List ℕ
 timed_word rate Plain w = w
 timed_word rate Number w = w
@@ -56,11 +56,12 @@ timed_text rate text = said_text (timed_word rate) parts text
 
 -- ---- frames in the place of times
 
--- the fraction with a divisor that is nearest to an amplitude, the greater one of two as near
+-- the fraction with this divisor that is nearest to an amplitude, the greater one of two that are
+-- equally near
 abbrev pub nearest_with : ℕ → ℕ → Fraction
 nearest_with amp den = record { num = min ((2 * (amp * den) + unit) / (2 * unit)) 65535; den = den }
 
--- the second, where it is nearer
+-- the second of two fractions if it is nearer, otherwise the first
 abbrev pub nearer_of : ℕ → Fraction → Fraction → Fraction
 nearer_of amp best other = if nat_lt (off amp other.num other.den * best.den)
     (off amp best.num best.den * other.den) then other else best
@@ -70,7 +71,7 @@ unfoldable pub nearest_to : ℕ → ℕ → Fraction
 nearest_to amp zero = nearest_with amp 1
 nearest_to amp (suc n) = nearer_of amp (nearest_to amp n) (nearest_with amp (n + 2))
 
--- the fraction nearest to what a word tells in decibels
+-- the fraction nearest to a word in decibels
 unfoldable pub fraction : List ℕ → Option Fraction
 fraction word = option_map (λ amp. nearest_to amp 999) (amplitude_of word)
 
@@ -83,8 +84,8 @@ abbrev pub gain_or_word : Option Fraction → List ℕ → List ℕ
 gain_or_word (Some f) w = decimal f.num ++ (codes "/" ++ decimal f.den)
 gain_or_word None w = w
 
--- A time as the frame that is nearest to it, decibels as the nearest gain, and every other word as
--- it is.
+-- A time as the frame that is nearest to it, decibels as the nearest gain, and every other word
+-- unchanged.
 abbrev pub plain_word : ℕ → Kind → List ℕ → List ℕ
 plain_word rate Plain w = w
 plain_word rate Number w = w

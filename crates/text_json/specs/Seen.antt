@@ -1,4 +1,5 @@
--- How the code's parts are seen: what ties it to the definitions, and no definition of the subject.
+-- Working definitions, which relate the code to the definitions: the values that the code's parts
+-- stand for.
 use Rattle.std.specs.Prelude.{◌≡◌, ℕ, List, drop}
 use Rattle.std.specs.Option.{option_map}
 use Rattle.text_json.specs.declared.part.Value.{Value as CodeValue}
@@ -30,7 +31,7 @@ pending_of next.Stamped = stamped
 pending_of next.Acting = acting
 pending_of (next.Slots slots) = due slots.now
 
--- a part was read as the definition says, of a word behind which these stand
+-- a part was read as defined, at a word before these words
 pub record IsRead (r : Reading) (ws : List (List ℕ)) (step : Step) : Type 0 where
   pub part : part_of step.part ≡ r.part
   pub pending : pending_of step.pending ≡ r.pending

@@ -1,5 +1,5 @@
--- What the words of lines announce: the keys, the acts and their slots (profile). The lines are
--- those of `docs/formats.md`.
+-- The keys, and the acts with their slots (profile). The lines are those of `docs/use/output.md`
+-- and `docs/use/scripts.md`.
 use Rattle.std.specs.Prelude.{ℕ, Bool, true, false, List, [], ◌∷◌, Option, Some, None}
 use Rattle.std.specs.Prelude.{if◌then◌else◌, codes}
 use Rattle.std.specs.Str.{bytes_eq}
@@ -17,42 +17,43 @@ is_one_of (w ∷ ws) word = if bytes_eq word w then true else is_one_of ws word
 
 -- ---- keys
 
--- before a stamp, a digest or the name of a kind of thing
+-- keys before a stamp, a digest or the name of a kind of thing
 abbrev pub plain_keys : List (List ℕ)
 plain_keys =
     codes "track" ∷ codes "clip" ∷ codes "marker" ∷ codes "place" ∷ codes "source" ∷ codes "digest"
         ∷ []
 
--- the same, of what is found
+-- keys before such a word, in the lines of `sources` and `check`
 abbrev pub finding_keys : List (List ℕ)
 finding_keys =
     codes "unused" ∷ codes "needs" ∷ codes "covered" ∷ codes "past-end" ∷ codes "one-channel"
         ∷ codes "behind" ∷ []
 
--- before a position or a length in frames
+-- keys before a position or a length in frames
 abbrev pub frames_keys : List (List ℕ)
 frames_keys = codes "at" ∷ codes "offset" ∷ codes "len" ∷ codes "end" ∷ codes "frames"
     ∷ codes "time-reference" ∷ []
 
--- before a number: of operations, of clips and of what is wrong
+-- keys before a number: of operations, of clips, of warnings, of an error, and of missing
+-- recordings
 abbrev pub count_keys : List (List ℕ)
 count_keys =
     codes "held" ∷ codes "operations" ∷ codes "warnings" ∷ codes "clips" ∷ codes "audible"
         ∷ codes "refused" ∷ codes "missing" ∷ []
 
--- before a number: of two logs, and of a recording
+-- keys before a number: of two logs, and of a recording
 abbrev pub number_keys : List (List ℕ)
 number_keys =
     codes "left" ∷ codes "right" ∷ codes "both" ∷ codes "clashes" ∷ codes "rate" ∷ codes "channels"
         ∷ codes "bits" ∷ codes "bext" ∷ codes "cue" ∷ []
 
--- before a text that goes up to the end of the line
+-- keys before a text up to the end of the line
 abbrev pub rest_keys : List (List ℕ)
 rest_keys =
     codes "title" ∷ codes "label" ∷ codes "description" ∷ codes "originator" ∷ codes "reference"
         ∷ codes "date" ∷ codes "time" ∷ codes "history" ∷ codes "file" ∷ []
 
--- what follows a key that has a form of its own
+-- the form of what follows one of the remaining keys
 abbrev pub single_form : List ℕ → Option Arity
 single_form word =
     if bytes_eq word (codes "gain") then Some (One Gain)
@@ -61,7 +62,7 @@ single_form word =
     else if bytes_eq word (codes "tags") then Some (All Plain)
     else None
 
--- What follows a key, and none where the word is no key.
+-- The form of what follows a key; none if the word is not a key.
 unfoldable pub key_form : List ℕ → Option Arity
 key_form word =
     if is_one_of plain_keys word then Some (One Plain)
@@ -100,18 +101,18 @@ name_text name.Track = codes "track"
 abbrev pub slot : Name → Arity → Slot
 slot n f = record { name = n; form = f }
 
--- one word that is told as it is: a stamp, a digest, a sign or a word of the program
+-- a slot of one plain word: a stamp, a digest, a sign or a word of the program
 abbrev pub plain : Name → Slot
 plain n = slot n (One Plain)
 
--- one word that is a position or a length
+-- a slot of one word that is a position or a length
 abbrev pub frames : Name → Slot
 frames n = slot n (One Frames)
 
 abbrev pub title : Slot
 title = slot name.Title Rest
 
--- What follows the word of an act, in the log's text and in scripts.
+-- The slots after the word of an act, in the text of `radio log` and in scripts.
 abbrev pub acts : List (List ℕ × List Slot)
 acts =
     (codes "add-track", plain name.After ∷ title ∷ []) ∷
@@ -130,7 +131,7 @@ acts =
     (codes "fade", plain name.Clip ∷ slot name.Fade (Two Frames) ∷ []) ∷
     (codes "marker-length", plain name.Marker ∷ frames name.Len ∷ []) ∷ []
 
--- the slots of the act whose word this is, and none where it is no act's
+-- the slots of the act of this word; none if it is not the word of an act
 abbrev pub find_slots : List (List ℕ × List Slot) → List ℕ → Option (List Slot)
 find_slots [] word = None
 find_slots (act ∷ others) word = if bytes_eq word act.0 then Some act.1 else find_slots others word
@@ -140,14 +141,14 @@ act_slots word = find_slots acts word
 
 -- ---- how lines begin
 
--- the word by which a line says on which side it stands
+-- the signs of a line of `diff`: only in the left log, only in the right log, or different in both
 abbrev pub signs : List (List ℕ)
 signs = codes "-" ∷ codes "+" ∷ codes "!" ∷ []
 
--- the word by which a line says whether an operation waits
+-- the states of an operation: whether it is ready or held
 abbrev pub states : List (List ℕ)
 states = codes "ready" ∷ codes "held" ∷ []
 
--- what follows `both ITEM` where a line begins so: the field, and the stamp of each side
+-- the slots after `both ITEM` at the beginning of a line: the field, and the stamp of each log
 abbrev pub sides : List Slot
 sides = plain name.Field ∷ plain name.Left ∷ plain name.Right ∷ []

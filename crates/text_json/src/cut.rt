@@ -1,4 +1,4 @@
-//! Where texts and lines are cut.
+//! Cutting texts into lines, and lines into words.
 
 ghost use Rattle.std.specs.Prelude.{◌≡◌, ◌∷◌, ◌<◌, ◌≤◌, length};
 ghost use Rattle.base_text.specs.Cutting.{lines};
@@ -7,7 +7,7 @@ ghost use Rattle.text_json.specs.Left.{words_left, pieces_left, length_left};
 
 use memchr::memchr;
 
-/// What is left of a line, cut at its first space: its first word, and what is left then.
+/// The rest of a line, cut at its first space: its first word, and the rest after that.
 #[derive(Clone, Copy)]
 pub(crate) struct Cut<'a> {
     pub(crate) text: &'a [u8],
@@ -17,7 +17,7 @@ pub(crate) struct Cut<'a> {
     ghost shorter: { length_left left ≤ length text.now },
 }
 
-/// Cuts what is left of a line at its first space.
+/// Cuts the rest of a line at its first space.
 pub(crate) fn cut_word(text: &[u8]) -> Cut<'_>
     ensures { result.text.now ≡ text.now }
 {
@@ -35,7 +35,7 @@ pub(crate) fn cut_word(text: &[u8]) -> Cut<'_>
     }
 }
 
-/// A text up to its first line feed, and what follows that.
+/// A text up to its first line feed, and the rest after it.
 pub(crate) fn cut_piece(text: &[u8]) -> (&[u8], Option<&[u8]>)
     ensures pieces { pieces text.now ≡ result.0.now ∷ pieces_left result.1 }
     ensures shorter { length_left result.1 ≤ length text.now }

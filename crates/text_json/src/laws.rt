@@ -1,15 +1,15 @@
-//! What holds of lines, and of what is said of them, as the contracts of functions.
+//! The laws of lines and of their rewriting, as the contracts of functions.
 
 ghost use Rattle.text_json.specs.Laws.{LinesAreKept, TextsStay, NumbersAreSpelled};
 ghost use Rattle.text_json.specs.Laws.{LevelsAreNearest, ObjectsAreRead};
 
-/// Nothing of a line is lost: the words of its parts, with one space between each two, are the
+/// No part of a line is lost: the words of its parts, with one space between each two, are the
 /// line.
 pub fn lines_kept()
     ensures { LinesAreKept }
 {}
 
-/// A text of which each word is said as it is stays as it is, line feeds and all.
+/// A text is unchanged, line feeds included, if no word is rewritten.
 pub fn texts_stay()
     ensures { TextsStay }
 {}
@@ -20,12 +20,13 @@ pub fn numbers()
     ensures { NumbersAreSpelled }
 {}
 
-/// A level is said as the fraction nearest to its amplitude, and no other word is.
+/// A level is rewritten as the fraction nearest to its amplitude, and no other word is.
 pub fn levels()
     ensures { LevelsAreNearest }
 {}
 
-/// The JSON of a line is read, as the object that its members make: the last of one name stays.
+/// The JSON of a line is read back as the object of its members; of several members with one name
+/// the last is kept.
 pub fn objects_read()
     ensures { ObjectsAreRead }
 {}

@@ -1,5 +1,5 @@
 //! The lines that `radio` prints and those of its scripts, word by word: printed lines as JSON, or
-//! with times in the place of frames; and scripts that tell times, with frames in their place.
+//! with times in the place of frames; and scripts that contain times, with frames in their place.
 //!
 //! ```rust
 //! use text_json::{json_text, timed_text, with_frames};
@@ -34,12 +34,12 @@
 //! }
 //! ```
 //!
-//! A line is cut at single spaces into words. From the left a *key* is a word that says what
-//! follows it, and what follows are *slots*, which take a word, two, or all that is left; the word
-//! that begins a line, or follows a stamp, may be an act, which has slots of its own.
-//! `specs/Table.antt` lists the keys, the acts and their slots, `specs/Line.antt` says how a line
-//! is read by them, `specs/Json.antt` what JSON it is, and `specs/Saying.antt` how it is said with
-//! times and with frames; `proofs/Examples.antt` has a line of each kind.
+//! A line is cut at single spaces into words. It is read from the left. A *key* is a word that
+//! determines what follows it, and a *slot* takes one word, two, or the rest of the line. The word
+//! that begins a line, or follows a stamp, may be an act, which has its own slots.
+//! `specs/Table.antt` lists the keys, the acts and their slots, `specs/Line.antt` defines how a
+//! line is read with them, `specs/Json.antt` defines its JSON, and `specs/Saying.antt` how it is
+//! rewritten with times and with frames; `proofs/Examples.antt` has a line of each kind.
 #![tactic(auto)]
 
 mod cut;

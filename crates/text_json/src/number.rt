@@ -5,7 +5,7 @@ ghost use Rattle.text_json.specs.Json.{number_of};
 
 use itoa::Buffer;
 
-// The number that a text is the decimal spelling of: no sign and no leading zero.
+// The number whose decimal spelling the text is, with no sign and no leading zero.
 fn spelled(text: &str) -> Option<u64>
     ensures { result ≡ number_of text.now }
 {
@@ -20,7 +20,7 @@ fn spelled(text: &str) -> Option<u64>
     }
 }
 
-/// The number that a word is the decimal spelling of: no sign and no leading zero.
+/// The number whose decimal spelling the word is, with no sign and no leading zero.
 pub(crate) fn number_of(word: &[u8]) -> Option<u64>
     ensures { result ≡ number_of word.now }
 {

@@ -16,7 +16,7 @@ use crate::slot::Kind;
 use base_text::cut_line;
 use std::alloc::{AllocError, Global};
 
-// Writes a text in quotes.
+// Appends a text as a JSON string.
 fn append_quoted(alloc: Global, json: &mut Vec<u8>, text: &str) -> Result<(), AllocError>
     ensures { OnOk result (json.new.items ≡ json.old.items ++ compact_text (string text.now)) }
 {
@@ -25,7 +25,7 @@ fn append_quoted(alloc: Global, json: &mut Vec<u8>, text: &str) -> Result<(), Al
     json.extend_from_slice(&quoted)
 }
 
-// Writes a text, and null where it is no UTF-8.
+// Appends a text as a string, or null if it is not UTF-8.
 fn append_text(alloc: Global, json: &mut Vec<u8>, text: &[u8]) -> Result<(), AllocError>
     ensures { OnOk result (json.new.items ≡ json.old.items ++ compact_text (text_data text.now)) }
 {
@@ -35,7 +35,7 @@ fn append_text(alloc: Global, json: &mut Vec<u8>, text: &[u8]) -> Result<(), All
     }
 }
 
-// Writes what a member is called.
+// Appends the name of a member.
 fn append_name(alloc: Global, json: &mut Vec<u8>, name: &[u8]) -> Result<(), AllocError>
     ensures { OnOk result (json.new.items ≡ json.old.items
         ++ compact_text (string (called name.now))) }
@@ -46,7 +46,7 @@ fn append_name(alloc: Global, json: &mut Vec<u8>, name: &[u8]) -> Result<(), All
     }
 }
 
-// Writes a number, and the text where it spells none.
+// Appends a number, or the word as a text if it does not spell one.
 fn append_number(alloc: Global, json: &mut Vec<u8>, word: &[u8]) -> Result<(), AllocError>
     ensures { OnOk result (json.new.items ≡ json.old.items
         ++ compact_text (word_data Kind.Number word.now)) }
@@ -58,7 +58,7 @@ fn append_number(alloc: Global, json: &mut Vec<u8>, word: &[u8]) -> Result<(), A
     }
 }
 
-// Writes whether a switch is on, and the text where it says neither.
+// Appends a flag as true or false, or the word as a text if it is neither `on` nor `off`.
 fn append_flag(alloc: Global, json: &mut Vec<u8>, word: &[u8]) -> Result<(), AllocError>
     ensures { OnOk result (json.new.items ≡ json.old.items
         ++ compact_text (word_data Kind.Flag word.now)) }
@@ -72,7 +72,7 @@ fn append_flag(alloc: Global, json: &mut Vec<u8>, word: &[u8]) -> Result<(), All
     append_text(alloc, json, word)
 }
 
-// Writes what a word says.
+// Appends the value of a word.
 fn append_word(alloc: Global, json: &mut Vec<u8>, kind: Kind, word: &[u8]) -> Result<(), AllocError>
     ensures { OnOk result (json.new.items ≡ json.old.items
         ++ compact_text (word_data kind word.now)) }
@@ -84,7 +84,7 @@ fn append_word(alloc: Global, json: &mut Vec<u8>, kind: Kind, word: &[u8]) -> Re
     }
 }
 
-// Writes an item, behind a comma where another stands before it.
+// Appends an item, after a comma if it is not the first.
 fn append_item(
     alloc: Global,
     json: &mut Vec<u8>,
@@ -101,7 +101,7 @@ fn append_item(
     append_word(alloc, json, kind, word)
 }
 
-// Writes two words as an array.
+// Appends two words as an array.
 fn append_pair(
     alloc: Global,
     json: &mut Vec<u8>,
@@ -118,7 +118,7 @@ fn append_pair(
     json.extend_from_slice(b"]")
 }
 
-// Writes the words of a text as an array.
+// Appends the words of a text as an array.
 fn append_all(alloc: Global, json: &mut Vec<u8>, kind: Kind, text: &[u8]) -> Result<(), AllocError>
     ensures { OnOk result (json.new.items
         ≡ json.old.items ++ compact_text (array (items_data kind (words text.now)))) }
@@ -135,7 +135,7 @@ fn append_all(alloc: Global, json: &mut Vec<u8>, kind: Kind, text: &[u8]) -> Res
     json.extend_from_slice(b"]")
 }
 
-// Writes what a part says.
+// Appends the value of a part.
 fn append_value(alloc: Global, json: &mut Vec<u8>, value: Value) -> Result<(), AllocError>
     ensures { OnOk result (json.new.items ≡ json.old.items
         ++ compact_text (value_data (value_of value.entry))) }
@@ -149,7 +149,7 @@ fn append_value(alloc: Global, json: &mut Vec<u8>, value: Value) -> Result<(), A
     }
 }
 
-// Writes the member of a part, behind a comma where another stands before it.
+// Appends the member of a part, after a comma if it is not the first.
 fn append_member(
     alloc: Global,
     json: &mut Vec<u8>,
@@ -167,7 +167,7 @@ fn append_member(
     append_value(alloc, json, part.value)
 }
 
-// Writes the object of a line.
+// Appends the object of a line.
 fn append_object(alloc: Global, json: &mut Vec<u8>, line: &[u8]) -> Result<(), AllocError>
     ensures { OnOk result (json.new.items ≡ json.old.items ++ compact_text (line_data line.now)) }
 {
@@ -185,7 +185,7 @@ fn append_object(alloc: Global, json: &mut Vec<u8>, line: &[u8]) -> Result<(), A
     json.extend_from_slice(b"}")
 }
 
-// Writes a line as JSON.
+// Appends a line as JSON.
 fn append_line(alloc: Global, json: &mut Vec<u8>, line: &[u8]) -> Result<(), AllocError>
     ensures { OnOk result (json.new.items ≡ json.old.items ++ json_line line.now) }
 {
@@ -195,11 +195,11 @@ fn append_line(alloc: Global, json: &mut Vec<u8>, line: &[u8]) -> Result<(), All
 
 /// The lines of a text as JSON, an object and a line feed for each.
 ///
-/// The text is one that `radio` prints; the page on output says how its lines are read, and a last
-/// line feed ends the last one. The members of an object are in the order of the line, each called
-/// as its key or its slot is. Numbers, positions and lengths are numbers, `on` and `off` true and
-/// false, fades and tags arrays, a key that nothing follows true, all else strings, and what is no
-/// UTF-8 null. In time linear in the text. Fails where memory runs out.
+/// The text is one that `radio` prints; the page on output describes how its lines are read, and a
+/// last line feed ends the last line. The members of an object are in the order of the line, each
+/// named as its key or its slot. Numbers, positions and lengths are JSON numbers, `on` and `off`
+/// are true and false, fades and tags are arrays, a key that nothing follows is true, other texts
+/// are strings, and a text that is not UTF-8 is null. Takes linear time. Fails if memory runs out.
 pub fn json_text(alloc: Global, text: &[u8]) -> Result<Vec<u8>, AllocError>
     ensures { IfOk result (λ json. json.items ≡ json_text text.now) }
 {

@@ -13,7 +13,7 @@ use crate::cut::{Cut, cut_word};
 use crate::slot::{Arity, Kind, Name, Slot};
 use crate::table::{SIDES, act_slots, is_sign, is_state, key_form, name_text};
 
-/// What a part says.
+/// The value of a part.
 #[derive(Clone, Copy)]
 pub(crate) enum Value<'a> {
     Alone,
@@ -23,7 +23,7 @@ pub(crate) enum Value<'a> {
     All(Kind, &'a [u8]),
 }
 
-/// A part of a line: the key before its value, if there is one, what the value is called, and the
+/// A part of a line: the key before its value, if there is one, the name of the value, and the
 /// value.
 #[derive(Clone, Copy)]
 pub(crate) struct Part<'a> {
@@ -42,7 +42,7 @@ pub(crate) enum Pending {
     Slots(&'static [Slot]),
 }
 
-/// A part that was read, what may come behind it, and what is left of the line.
+/// A part that was read, what may come after it, and the rest of the line.
 #[derive(Clone, Copy)]
 pub(crate) struct Step<'a> {
     pub(crate) part: Part<'a>,
@@ -50,7 +50,7 @@ pub(crate) struct Step<'a> {
     pub(crate) left: Option<&'a [u8]>,
 }
 
-// What two words say, or the one that is left.
+// The value of two words, or of one if only one is left.
 fn take_two<'a>(kind: Kind, cut: Cut<'a>) -> (Value<'a>, Option<&'a [u8]>)
     ensures value { value_of result.0 ≡ value_at (Arity.Two kind) cut.entry.word.now
         (words_left cut.entry.left) }
@@ -66,7 +66,7 @@ fn take_two<'a>(kind: Kind, cut: Cut<'a>) -> (Value<'a>, Option<&'a [u8]>)
     }
 }
 
-// What a slot of this form says at a word, and what is left.
+// The value of a slot of this form at a word, and the rest of the line.
 fn take<'a>(form: Arity, cut: Cut<'a>) -> (Value<'a>, Option<&'a [u8]>)
     ensures value { value_of result.0 ≡ value_at form cut.entry.word.now (words_left cut.entry.left)
         }
@@ -82,7 +82,7 @@ fn take<'a>(form: Arity, cut: Cut<'a>) -> (Value<'a>, Option<&'a [u8]>)
     }
 }
 
-// Reads what a slot takes.
+// Reads the words of a slot.
 fn read_slot<'a>(slot: Slot, pending: Pending, cut: Cut<'a>) -> Step<'a>
     ensures read { IsRead
         (slot_reading slot (pending_of pending) cut.entry.word.now (words_left cut.entry.left))
@@ -102,7 +102,7 @@ fn read_slot<'a>(slot: Slot, pending: Pending, cut: Cut<'a>) -> Step<'a>
     }
 }
 
-// Reads a word that stands alone.
+// Reads a word without a value.
 fn read_alone<'a>(pending: Pending, cut: Cut<'a>) -> Step<'a>
     ensures read { IsRead
         (alone_reading cut.entry.word.now (pending_of pending))
@@ -144,7 +144,7 @@ fn read_key<'a>(name: &'a [u8], form: Arity, pending: Pending, cut: Cut<'a>) -> 
     }
 }
 
-// Reads a word where no slot is left.
+// Reads a word after the last slot.
 fn read_free<'a>(cut: Cut<'a>) -> Step<'a>
     ensures read { IsRead
         (free_reading cut.entry.word.now (words_left cut.entry.left))
@@ -157,7 +157,7 @@ fn read_free<'a>(cut: Cut<'a>) -> Step<'a>
     }
 }
 
-// A slot of one word that is told as it is.
+// A slot of one plain word.
 fn plain(name: Name) -> Slot
     ensures { result ≡ plain name }
 {
@@ -181,7 +181,7 @@ fn read_act<'a>(cut: Cut<'a>) -> Step<'a>
     read_slot(plain(Name::Act), Pending::Slots(slots), cut)
 }
 
-// Reads the word that a line begins with, or that follows its sign.
+// Reads the first word of a line, or the first after its sign.
 fn read_first<'a>(cut: Cut<'a>) -> Step<'a>
     ensures read { IsRead
         (first_reading cut.entry.word.now (words_left cut.entry.left))
@@ -202,7 +202,7 @@ fn read_first<'a>(cut: Cut<'a>) -> Step<'a>
     read_slot(plain(Name::Stamp), Pending::Stamped, cut)
 }
 
-/// Reads the part that a word begins.
+/// Reads the part that begins with a word.
 pub(crate) fn read_word<'a>(pending: Pending, cut: Cut<'a>) -> Step<'a>
     ensures read { IsRead
         (reading (pending_of pending) cut.entry.word.now (words_left cut.entry.left))

@@ -1,4 +1,4 @@
-//! Lines of which some words are said otherwise.
+//! Lines with some words rewritten.
 
 ghost use Rattle.std.specs.Prelude.{◌≡◌, ◌≤◌, ◌++◌, ◌∷◌, [], true, false, map, IfOk, OnOk};
 ghost use Rattle.text_json.specs.Cutting.{words};
@@ -14,7 +14,7 @@ use crate::say::{Telling, append_word, begin_of};
 use crate::slot::Kind;
 use std::alloc::{AllocError, Allocator};
 
-// Writes a word as it is, behind a space where another stands before it.
+// Appends a word unchanged, after a space if it is not the first.
 fn append_plain<A: Allocator>(
     text: &mut Vec<u8, A>,
     later: bool,
@@ -28,7 +28,7 @@ fn append_plain<A: Allocator>(
     text.extend_from_slice(word)
 }
 
-// Writes a word as it is said, behind a space where another stands before it.
+// Appends a rewritten word, after a space if it is not the first.
 fn append_said<A: Allocator>(
     text: &mut Vec<u8, A>,
     telling: Telling,
@@ -47,7 +47,7 @@ fn append_said<A: Allocator>(
     append_word(text, telling, rate, kind, word)
 }
 
-// Writes all words of a text so.
+// Appends all words of a text, rewritten.
 fn append_all<A: Allocator>(
     text: &mut Vec<u8, A>,
     telling: Telling,
@@ -71,7 +71,7 @@ fn append_all<A: Allocator>(
     Ok(())
 }
 
-// Writes what a part says.
+// Appends the value of a part, rewritten.
 fn append_value<A: Allocator>(
     text: &mut Vec<u8, A>,
     telling: Telling,
@@ -95,7 +95,7 @@ fn append_value<A: Allocator>(
     }
 }
 
-// Writes a part.
+// Appends a part, rewritten.
 fn append_part<A: Allocator>(
     text: &mut Vec<u8, A>,
     telling: Telling,
@@ -116,7 +116,7 @@ fn append_part<A: Allocator>(
     }
 }
 
-// Writes a line.
+// Appends a line, rewritten.
 fn append_line<A: Allocator>(
     text: &mut Vec<u8, A>,
     telling: Telling,
@@ -139,7 +139,7 @@ fn append_line<A: Allocator>(
     Ok(())
 }
 
-// Writes a line, behind a line feed where another stands before it.
+// Appends a rewritten line, after a line feed if it is not the first.
 fn append_piece<A: Allocator>(
     text: &mut Vec<u8, A>,
     telling: Telling,
@@ -157,7 +157,7 @@ fn append_piece<A: Allocator>(
     append_line(text, telling, rate, line)
 }
 
-// The lines of a text, said so.
+// The lines of a text, rewritten.
 fn rewritten<A: Allocator>(
     alloc: A,
     telling: Telling,
@@ -182,9 +182,9 @@ fn rewritten<A: Allocator>(
 /// The lines of a text with times in the place of frames.
 ///
 /// The text is one that `radio` prints. Each position and length in it that is a decimal number up
-/// to 2^50 becomes the time that so many frames last at `rate` frames a second, 1 and more, as
-/// `H:MM:SS.mmm`, rounded down; all else is as it was, and so are the line feeds. In time linear in
-/// the text. Fails where memory runs out.
+/// to 2^50 is replaced by the duration of this many frames at `rate` frames per second, 1 or more,
+/// as `H:MM:SS.mmm`, rounded down. Everything else is unchanged, line feeds included. Takes linear
+/// time. Fails if memory runs out.
 pub fn timed_text<A: Allocator>(alloc: A, rate: u32, text: &[u8]) -> Result<Vec<u8, A>, AllocError>
     requires { 1 ≤ rate }
     ensures { IfOk result (λ timed. timed.items ≡ timed_text rate text.now) }
@@ -194,13 +194,13 @@ pub fn timed_text<A: Allocator>(alloc: A, rate: u32, text: &[u8]) -> Result<Vec<
 
 /// A script with frames in the place of times, and fractions in the place of decibels.
 ///
-/// Each position and length in a line of the script that is a time (`H:MM:SS`, `H:MM:SS.f`, `Ss` or
-/// `S.fs`) is the frame that is nearest to it at `rate` frames a second, 1 and more, and each gain
-/// that is a level (`-6dB`) the nearest `NUM/DEN`; all else is as it was, and so are the line
-/// feeds. What is neither a number nor a time stays, for who reads the script to refuse in the same
-/// line. In time linear in the script.
+/// In each line, a position or length that is a time (`H:MM:SS`, `H:MM:SS.f`, `Ss` or `S.fs`) is
+/// replaced by the nearest frame at `rate` frames per second, 1 or more, and a gain that is a level
+/// (`-6dB`) by the nearest `NUM/DEN`. Everything else is unchanged, line feeds included. A word
+/// that is neither a number nor a time is kept, so that the reader of the script refuses it at its
+/// line. Takes linear time.
 ///
-/// An error where an allocation failed.
+/// Fails if an allocation fails.
 pub fn with_frames<A: Allocator>(
     alloc: A,
     rate: u32,

@@ -1,4 +1,4 @@
-//! Words that are said otherwise: frames as times, and times as frames.
+//! Rewriting words: frames as times, and times as frames.
 
 ghost use Rattle.std.specs.Prelude.{◌≡◌, ◌≤◌, ◌^◌, ◌++◌, codes, OnOk};
 ghost use Rattle.std.specs.Fmt.{decimal};
@@ -16,26 +16,26 @@ use base_text::append_decimal;
 use base_times::{Fraction, append_time, fraction_of, frames_of};
 use std::alloc::{AllocError, Allocator};
 
-/// How the words of lines are said.
+/// How the words of lines are rewritten.
 #[derive(Clone, Copy, Debug, PartialEq, Eq)]
 pub(crate) enum Telling {
-    /// Lines that are printed, with times.
+    /// Printed lines, with times.
     InTimes,
     /// Lines of a script, with frames and fractions.
     InFrames,
 }
 
-// The most frames that are said as a time: 2^50.
+// The greatest number of frames that is rewritten as a time: 2^50.
 const MOST: u64 = 1_125_899_906_842_624;
 
-// The fraction nearest to what a word tells in decibels.
+// The fraction nearest to a word in decibels.
 fn fraction(word: &[u8]) -> Option<Fraction>
     ensures { result ≡ fraction word.now }
 {
     fraction_of(word)
 }
 
-// Writes frames as a time.
+// Appends frames as a time.
 fn append_timed<A: Allocator>(
     text: &mut Vec<u8, A>,
     rate: u32,
@@ -55,7 +55,7 @@ fn append_timed<A: Allocator>(
     }
 }
 
-// Writes a time as frames.
+// Appends a time as frames.
 fn append_frames<A: Allocator>(
     text: &mut Vec<u8, A>,
     rate: u32,
@@ -71,7 +71,7 @@ fn append_frames<A: Allocator>(
     }
 }
 
-// Writes decibels as a gain.
+// Appends decibels as a gain.
 fn append_gain<A: Allocator>(text: &mut Vec<u8, A>, word: &[u8]) -> Result<(), AllocError>
     ensures { OnOk result (text.new.items ≡ text.old.items
         ++ gain_or_word (fraction word.now) word.now) }
@@ -84,7 +84,7 @@ fn append_gain<A: Allocator>(text: &mut Vec<u8, A>, word: &[u8]) -> Result<(), A
     append_decimal(text, u64::from(gain.den))
 }
 
-/// Writes a word as it is said.
+/// Appends a word, rewritten by its kind.
 pub(crate) fn append_word<A: Allocator>(
     text: &mut Vec<u8, A>,
     telling: Telling,
@@ -109,7 +109,7 @@ const LINE: &[Slot] = &[Slot {
     form: Arity::Rest,
 }];
 
-/// What a line may begin with.
+/// What may come first in a line.
 pub(crate) fn begin_of(telling: Telling, line: &[u8]) -> Pending
     ensures { pending_of result ≡ begin_of telling (words line.now) }
 {

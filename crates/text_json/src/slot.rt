@@ -1,9 +1,9 @@
-//! What stands behind a word.
+//! The words that follow a key or an act.
 
-/// What a word is.
+/// The kind of a word.
 #[derive(Clone, Copy, Debug, PartialEq, Eq)]
 pub(crate) enum Kind {
-    /// A word that is told as it is.
+    /// A word without a further meaning.
     Plain,
     /// A number.
     Number,
@@ -15,20 +15,20 @@ pub(crate) enum Kind {
     Gain,
 }
 
-/// How much of a line a slot takes.
+/// How many words of a line a slot takes.
 #[derive(Clone, Copy, Debug, PartialEq, Eq)]
 pub(crate) enum Arity {
     /// One word.
     One(Kind),
-    /// Two words, or the one that is left.
+    /// Two words, or one if only one is left.
     Two(Kind),
-    /// All that is left, with its spaces.
+    /// The rest of the line, with its spaces.
     Rest,
-    /// All words that are left.
+    /// All remaining words.
     All(Kind),
 }
 
-/// What a slot is called.
+/// The name of a slot.
 #[derive(Clone, Copy, Debug, PartialEq, Eq)]
 pub(crate) enum Name {
     Act,

@@ -1,4 +1,4 @@
-//! What the words of lines announce.
+//! The keys and acts of lines, and what follows each.
 
 ghost use Rattle.std.specs.Prelude.{◌≡◌};
 ghost use Rattle.std.specs.Option.{option_map};
@@ -29,7 +29,7 @@ fn is_plain_key(word: &[u8]) -> bool
     }
 }
 
-// The same, of what is found.
+// Whether a word is a key before such a word in the lines of `sources` and `check`.
 fn is_finding_key(word: &[u8]) -> bool
     ensures { result ≡ is_one_of finding_keys word.now }
 {
@@ -71,7 +71,8 @@ fn is_frames_key(word: &[u8]) -> bool
     }
 }
 
-// Whether a word is a key before a count.
+// Whether a word is a key before a number of operations, clips or warnings, of an error, or of
+// missing recordings.
 fn is_count_key(word: &[u8]) -> bool
     ensures { result ≡ is_one_of count_keys word.now }
 {
@@ -163,7 +164,7 @@ pub(crate) fn is_sign(word: &[u8]) -> bool
     }
 }
 
-// Whether a word says whether an operation waits.
+// Whether a word is the state of an operation: `ready` or `held`.
 pub(crate) fn is_state(word: &[u8]) -> bool
     ensures { result ≡ is_one_of states word.now }
 {
@@ -176,7 +177,7 @@ pub(crate) fn is_state(word: &[u8]) -> bool
     }
 }
 
-// What follows a key that has a form of its own.
+// The form of what follows one of the remaining keys.
 fn single_form(word: &[u8]) -> Option<Arity>
     ensures { result ≡ single_form word.now }
 {
@@ -193,7 +194,7 @@ fn single_form(word: &[u8]) -> Option<Arity>
     }
 }
 
-// What follows a key, if the word is one.
+// The form of what follows a key, if the word is one.
 #[tactic(auto, unfolding(crate::specs::Table::key_form))]
 pub(crate) fn key_form(word: &[u8]) -> Option<Arity>
     ensures { result ≡ key_form word.now }
@@ -215,7 +216,7 @@ pub(crate) fn key_form(word: &[u8]) -> Option<Arity>
     }
 }
 
-// What a slot is called in text.
+// The name of a slot as text.
 pub(crate) fn name_text(name: Name) -> &'static [u8]
     ensures { result.now ≡ name_text name }
 {
@@ -324,10 +325,10 @@ const FADE: Slot = Slot {
     form: Arity::Two(Kind::Frames),
 };
 
-/// What follows `both ITEM`.
+/// The slots after `both ITEM`.
 pub(crate) const SIDES: &[Slot] = &[FIELD, LEFT, RIGHT];
 
-// The slots of an act, if the word is one's.
+// The slots of an act, if the word is one.
 #[tactic(auto, unfolding(crate::specs::Table::act_slots))]
 pub(crate) fn act_slots(word: &[u8]) -> Option<&'static [Slot]>
     ensures { option_map (λ slots. slots.now) result ≡ act_slots word.now }

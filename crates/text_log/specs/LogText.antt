@@ -1,5 +1,5 @@
--- How a log is written (profile): a line for each operation, by rising stamp, and one for how many
--- there are.
+-- The text of a log (profile): a line for each operation, by rising stamp, and one with their
+-- number.
 use Rattle.std.specs.Prelude.{ℕ, Bool, List, [], ◌∷◌, ◌++◌, codes, length, Option, Some, None}
 use Rattle.std.specs.Prelude.{if◌then◌else◌}
 use Rattle.std.specs.Fmt.{decimal}
@@ -27,7 +27,7 @@ stamp_word stamp = word (stamp_text stamp)
 abbrev pub number_word : ℕ → List ℕ
 number_word number = word (decimal number)
 
--- the place that a track comes after, or the head of the tracks
+-- the place after which a track comes, or the head of the tracks
 abbrev pub after_word : Option Stamp → List ℕ
 after_word None = codes " head"
 after_word (Some place) = stamp_word place
@@ -39,8 +39,8 @@ gain_word gain = number_word gain.num ++ (codes "/" ++ decimal gain.den)
 abbrev pub switch_word : Bool → List ℕ
 switch_word on = if on then codes " on" else codes " off"
 
--- What an operation does, in the words of a script. A title is what follows the one space after the
--- word before it, and may be empty.
+-- The act of an operation, in the words of a script. A title is everything after the one space that
+-- follows the word before it, and may be empty.
 abbrev pub act_text : Body → List ℕ
 act_text (AddTrack after title) = codes "add-track" ++ (after_word after ++ word title)
 act_text (MoveTrack track after) = codes "move-track" ++ (stamp_word track ++ after_word after)
@@ -64,7 +64,7 @@ act_text (SetFade clip fade_in fade_out) = codes "fade"
 act_text (SetMarkerLength marker len) = codes "marker-length"
     ++ (stamp_word marker ++ number_word len)
 
--- whether an operation is ready, or held until what it needs is there
+-- whether an operation is ready, or held until its needs are met
 abbrev pub status_text : Bool → List ℕ
 status_text ready = if ready then codes " ready " else codes " held "
 

@@ -1,4 +1,4 @@
-//! What an operation does, in the words of a script.
+//! The acts of operations, in the words of a script.
 
 ghost use Rattle.std.specs.Prelude.{◌≡◌, ◌++◌, OnOk, codes};
 ghost use Rattle.std.specs.List.{flat_map};
@@ -241,8 +241,8 @@ fn append_set_marker_length<A: Allocator>(
     append_number(text, " ", u64::from(len))
 }
 
-/// Writes what an operation does after what `text` holds, in the words of a log's text. Refused
-/// only where an allocation failed; `text` then holds a part of these words behind what it held.
+/// Appends the act of an operation, in the words of a log's text. Fails only if an allocation
+/// fails; `text` then has a part of these words appended.
 pub fn append_act<A: Allocator, B: Allocator, C: Allocator>(
     alloc: &A,
     text: &mut String<B>,

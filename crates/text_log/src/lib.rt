@@ -1,4 +1,5 @@
-//! The operations of a log as text, a line each: who did what, in which order, and what waits.
+//! The operations of a log as text, a line each: who did what, in which order, and which operations
+//! are held.
 //!
 //! ```rust
 //! use text_log::operations_text;
@@ -24,11 +25,11 @@
 //! }
 //! ```
 //!
-//! Lines stand by rising stamp. Each tells the stamp, whether the operation is ready or held, and
-//! what it does in the words of the scripts that make edits, but for two things that only a log
-//! knows: the place that a track comes after is told by the stamp of that place, and a `remove`
-//! lists the tags that it removes. The last line counts the operations. `specs/LogText.antt` is the
-//! text.
+//! Lines are sorted by rising stamp. Each has the stamp, whether the operation is ready or held,
+//! and its act in the words of the scripts that make edits, except for two things that only a log
+//! has: the place after which a track comes is given by the stamp of that place, and a `remove`
+//! lists the tags that it removes. The last line has the number of operations. `specs/LogText.antt`
+//! defines the text.
 #![tactic(auto)]
 
 mod act;

@@ -14,7 +14,7 @@ use mt_op::Op;
 use mt_stamp::Stamp;
 use std::alloc::{AllocError, Allocator};
 
-// Writes ` ready ` or ` held `.
+// Appends ` ready ` or ` held `.
 fn append_status<A: Allocator>(text: &mut String<A>, ready: bool) -> Result<(), AllocError>
     ensures { OnOk result (string_bytes text.new ≡ string_bytes text.old ++ status_text ready) }
 {
@@ -25,7 +25,7 @@ fn append_status<A: Allocator>(text: &mut String<A>, ready: bool) -> Result<(), 
     }
 }
 
-// Writes the line of an operation.
+// Appends the line of an operation.
 fn append_line<A: Allocator, B: Allocator, C: Allocator>(
     alloc: &A,
     text: &mut String<B>,
@@ -40,7 +40,7 @@ fn append_line<A: Allocator, B: Allocator, C: Allocator>(
     text.push_str("\n")
 }
 
-// Whether a stamp is among these, which rise.
+// Whether a stamp is one of these, which rise.
 fn is_among(stamps: &[Stamp], stamp: Stamp) -> bool
     requires rise { Rises stamp_cmp stamps.now }
     ensures { result ≡ is_listed stamps.now stamp }
@@ -48,8 +48,8 @@ fn is_among(stamps: &[Stamp], stamp: Stamp) -> bool
     stamps.binary_search(&stamp).is_ok()
 }
 
-/// Writes the lines of these operations, in their order; those are ready whose stamps are among
-/// these, which rise.
+/// Appends the lines of these operations, in their order. `ready` are the stamps of the ready ones,
+/// which rise.
 pub(crate) fn append_lines<A: Allocator, B: Allocator, C: Allocator>(
     alloc: &A,
     text: &mut String<B>,
@@ -67,7 +67,7 @@ pub(crate) fn append_lines<A: Allocator, B: Allocator, C: Allocator>(
     Ok(())
 }
 
-/// Writes `operations N` and a line feed.
+/// Appends `operations N` and a line feed.
 pub(crate) fn append_count<A: Allocator>(
     text: &mut String<A>,
     count: usize,

@@ -19,7 +19,7 @@ fn append_log<A: Allocator + Clone, B: Allocator>(
     ensures { OnOk result (string_bytes text.new ≡ string_bytes text.old
         ++ log_listing (operations log.now)) }
 {
-    // for the proof: that the dots of a log's operations differ
+    // for the proof: the dots of a log's operations differ
     let _ = log.runs();
     let Ok(ready) = ready_stamps(alloc.clone()?, log) else {
         return Err(AllocError);
@@ -31,11 +31,11 @@ fn append_log<A: Allocator + Clone, B: Allocator>(
 }
 
 /// The operations of a log, a line each, by rising stamp: `STAMP ready` or `STAMP held`, and then
-/// what the operation does in the words of a script, with whole stamps for items, `head` or the
-/// stamp of the place for what a track comes after, and the tags that a `remove` removes. Last
+/// the act in the words of a script, with whole stamps for items, with `head` or the stamp of the
+/// place after which a track comes, and with the tags that a `remove` removes. The last line is
 /// `operations N`.
 ///
-/// In a time of n log n for n operations and the tags that they list. Fails where memory runs out.
+/// Takes O(n log n) time for n operations and the tags that they list. Fails if memory runs out.
 pub fn operations_text<A: Allocator + Clone>(
     alloc: A,
     log: &Log<A>,

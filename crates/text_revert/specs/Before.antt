@@ -1,5 +1,5 @@
--- What stood before an operation of a log (profile): the ready ones of the operations with smaller
--- stamps, and what these leave of the field that it writes.
+-- The state before an operation of a log (profile): the ready ones of the operations with smaller
+-- stamps, and the value that they leave in the field that it writes.
 use Rattle.std.specs.Prelude.{Bool, List, Option, Some, None, option_map, map, filter, reverse}
 use Rattle.std.specs.FinMap as fin
 use Rattle.std.specs.Ordering.{is_lt}
@@ -21,15 +21,15 @@ use Rattle.mt_sessionview.specs.Session.{ready_ops}
 abbrev pub by_stamp : LogMap → List Op
 by_stamp log = sort_by op_cmp (operations log)
 
--- what operations leave: the ready ones, the last one first
+-- the state that operations leave: the ready ones, the last one first
 abbrev pub left_by : List Op → List Op
 left_by ops = reverse (ready_ops ops)
 
--- those of smaller stamps than an operation's
+-- the operations with smaller stamps than this one
 abbrev pub earlier : List Op → Op → List Op
 earlier ops o = filter (λ p. is_lt (op_cmp p o)) ops
 
--- what stood before an operation, and what stands now
+-- the state before an operation, and the state after all operations
 abbrev pub before : LogMap → Op → List Op
 before log o = left_by (earlier (by_stamp log) o)
 
@@ -39,7 +39,7 @@ now log = left_by (by_stamp log)
 -- ---- fields
 
 -- the track that an operation puts at its place: an AddTrack has the stamp of its track, which is
--- that of the place
+-- also that of the place
 abbrev pub put_track : Stamp → Body → Stamp
 put_track place (MoveTrack track after) = track
 put_track place _ = place
@@ -52,16 +52,16 @@ track_of place (Some o) = put_track place o.act
 abbrev pub place_track : LogMap → Stamp → Stamp
 place_track log place = track_of place (fin.get log (dot_of place))
 
--- what a writer wrote, as the act that writes it
+-- a written value, as the act that writes it
 abbrev pub act_with : {X : Type 0} → (X → Body) → Written X → Written Body
 act_with act w = record { writer = w.writer; value = act w.value }
 
 abbrev pub as_act : {X : Type 0} → (X → Body) → Option (Written X) → Option (Written Body)
 as_act act write = option_map (act_with act) write
 
--- Of the field that an act writes, the act that writes what stands in it after these operations,
--- and who wrote that. A track is then put after the track of its place, as in a script. What adds,
--- removes or restores an item has none.
+-- The value that the field of an act has after these operations, as the act that writes it again,
+-- with the stamp of its write. A track is put after the track of its place, as in a script. An act
+-- that adds, removes or restores an item has none.
 abbrev pub standing : LogMap → List Op → Body → Option (Written Body)
 standing log ops (MoveTrack track after) = as_act (λ place. MoveTrack track
     (option_map (place_track log) place)) (last_write track_place_written track ops)
@@ -82,8 +82,8 @@ standing log ops _ = None
 
 -- ---- the operations that are taken back
 
--- An operation that is taken back, and what stood before it: whether what it needs did, so that it
--- is ready; whether its item was present; and what stood in the field that it writes.
+-- An operation that is taken back, and the state before it: whether its needs were met, so that it
+-- is ready; whether its item was present; and the value of the field that it writes.
 pub record TakenBack : Type 0 where
   pub op : Op
   pub ready : Bool
@@ -97,7 +97,7 @@ taken_after log ops o = record { op = o; ready = are_needs_met ops o; present = 
 abbrev pub taken_back : LogMap → Op → TakenBack
 taken_back log o = taken_after log (before log o) o
 
--- those of these stamps, by rising stamp, each once
+-- the operations of these stamps, by rising stamp, each once
 abbrev pub all_taken_back : LogMap → List Stamp → List TakenBack
 all_taken_back log stamps = map (taken_back log) (filter (λ o. is_listed stamps o.stamp)
     (by_stamp log))

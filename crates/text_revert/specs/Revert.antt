@@ -1,5 +1,5 @@
--- The script that takes operations of a log back (profile): a line for each, the newest first,
--- which writes again what stood before it, or a remark that tells why no line does.
+-- The script that takes back operations of a log (profile): a line for each, the newest first,
+-- which writes again the value before it, or a comment that says why no line does.
 use Rattle.std.specs.Prelude.{ℕ, Bool, true, false, not, ◌&&◌, List, [], ◌∷◌, ◌++◌, Option, Some}
 use Rattle.std.specs.Prelude.{None, codes, if◌then◌else◌}
 use Rattle.std.specs.FinMap as fin
@@ -26,28 +26,30 @@ is_of stamp (Some o) = stamp_eq o.stamp stamp
 abbrev pub first_missing : LogMap → List Stamp → Option Stamp
 first_missing log stamps = find (λ stamp. not (is_of stamp (fin.get log (dot_of stamp)))) stamps
 
--- ---- what stands where a line is read: the lines of the operations behind, which are taken back with it, were read before it
+-- ---- the state when a line is read: the lines of the later operations were read before it
 
 -- whether an operation added, removed or restored this item
 abbrev pub changed_presence : Stamp → TakenBack → Bool
 changed_presence item t = t.ready && (is_none t.back && stamp_eq (op_item t.op.stamp t.op.act) item)
 
--- whether an item is present: as before the first of these that changed that, and else as now
+-- whether an item is present: as before the first of these that changed its presence, otherwise as
+-- after all operations
 abbrev pub is_there : List Op → List TakenBack → Stamp → Bool
 is_there ops [] item = is_present ops item
 is_there ops (t ∷ behind) item = if changed_presence item t then t.present else is_there ops behind
     item
 
--- who wrote a field before this operation did
+-- the stamp of the write of a field before this operation wrote it
 abbrev pub writer_before : Stamp → Option (Written Body) → Stamp
 writer_before writer None = writer
 writer_before writer (Some back) = back.writer
 
--- whose value is left where one is taken back
+-- the stamp of the write whose value a field has after one operation is taken back
 abbrev pub left_before : Stamp → TakenBack → Stamp
 left_before left t = if stamp_eq left t.op.stamp then writer_before left t.back else left
 
--- and where these are, the last one first: of a field that this writer wrote last
+-- the stamp of the write whose value a field has after these operations are taken back, the last
+-- one first; `writer` wrote the field last
 abbrev pub writer_left : Stamp → List TakenBack → Stamp
 writer_left writer [] = writer
 writer_left writer (t ∷ behind) = left_before (writer_left writer behind) t
@@ -58,8 +60,8 @@ writer_left writer (t ∷ behind) = left_before (writer_left writer behind) t
 abbrev pub waits : Stamp → List ℕ
 waits own = codes "# " ++ (stamp_text own ++ codes " waits: it changes nothing")
 
--- of an item that was present, or absent, and is now: `remove ITEM`, `restore ITEM`, or a remark
--- where it is as it was
+-- the line for an item that was present or absent, and is present or absent now: `remove ITEM`,
+-- `restore ITEM`, or a comment if its presence has not changed
 abbrev pub presence_line : (was is : Bool) → Stamp → List ℕ
 presence_line false false item = codes "# remove" ++
     (stamp_word item ++ codes ": it is absent already")
@@ -68,7 +70,7 @@ presence_line true false item = codes "restore" ++ stamp_word item
 presence_line true true item = codes "# restore" ++
     (stamp_word item ++ codes ": it is present already")
 
--- the track that a line names beside its item
+-- the track that a line names in addition to its item
 abbrev pub other_item : Body → Option Stamp
 other_item (MoveTrack track after) = after
 other_item (MoveClip clip track at) = Some track
@@ -82,8 +84,8 @@ absent_other there (Some other) = if there other then None else Some other
 abbrev pub first_absent : (Stamp → Bool) → Stamp → Body → Option Stamp
 first_absent there item act = if there item then absent_other there (other_item act) else Some item
 
--- `ACT`; or `# ACT: ITEM is absent`, where an editor would refuse it; or `# ACT: STAMP has changed
--- it since`, where it would take another's write back too
+-- `ACT`; or `# ACT: ITEM is absent`, if an editor would refuse it; or `# ACT: STAMP has changed it
+-- since`, if it would take another's write back too
 abbrev pub field_line : Body → Option Stamp → (own writer : Stamp) → List ℕ
 field_line act (Some absent) own writer = codes "# "
     ++ (act_text act ++ (codes ": " ++ (stamp_text absent ++ codes " is absent")))
@@ -91,7 +93,7 @@ field_line act None own writer =
     if stamp_eq writer own then act_text act else codes "# "
         ++ (act_text act ++ (codes ": " ++ (stamp_text writer ++ codes " has changed it since")))
 
--- the line of one that is ready: `last` is who wrote last to its field
+-- the line of a ready operation; `last` is the stamp of the last write to its field
 abbrev pub ready_line : List Op → List TakenBack → TakenBack → Stamp → Option (Written Body)
     → List ℕ
 ready_line ops behind t last None = presence_line t.present
@@ -100,7 +102,7 @@ ready_line ops behind t last (Some back) =
     field_line back.value (first_absent (is_there ops behind) (op_item t.op.stamp t.op.act)
         back.value) t.op.stamp (writer_left last behind)
 
--- who wrote last to the field that an operation writes
+-- the stamp of the last write to the field that an operation writes
 abbrev pub last_writer : LogMap → List Op → Op → Stamp
 last_writer log ops o = writer_before o.stamp (standing log ops o.act)
 
@@ -111,7 +113,7 @@ revert_words log ops behind t = if t.ready then ready_line ops behind t (last_wr
 abbrev pub revert_line : LogMap → List Op → List TakenBack → TakenBack → List ℕ
 revert_line log ops behind t = revert_words log ops behind t ++ newline ∷ []
 
--- the lines of those behind come before that of an operation
+-- the lines of the later operations come before that of an operation
 abbrev pub revert_lines : LogMap → List Op → List TakenBack → List ℕ
 revert_lines log ops [] = []
 revert_lines log ops (t ∷ behind) = revert_lines log ops behind ++ revert_line log ops behind t

@@ -1,4 +1,4 @@
-//! Why operations are not taken back.
+//! The faults of taking operations back.
 
 ghost use Rattle.std.specs.Prelude.{◌≡◌};
 ghost use Rattle.text_revert.specs.Faults.{number_of};
@@ -8,19 +8,19 @@ use mt_stamp::Stamp;
 use std::alloc::{AllocError, AllocFailed};
 use thiserror::Error;
 
-/// Why there is no script that takes operations back. Each refusal has a number that never changes.
+/// Why there is no script that takes operations back. Each fault has a number that never changes.
 #[derive(Clone, Copy, Debug, PartialEq, Eq, Error)]
 pub enum RevertFault {
-    /// A growth was refused.
+    /// An allocation failed.
     #[error("out of memory")]
     Memory,
-    /// No operation of the log has this stamp, and one has each stamp that was given before it.
+    /// No operation of the log has this stamp, the first such one of the given stamps.
     #[error("no operation has this stamp")]
     NoSuchItem(Stamp),
 }
 
 impl RevertFault {
-    /// The refusal's number: 0 or 21.
+    /// The fault's number: 0 or 21.
     pub fn number(&self) -> u8
         ensures { result ≡ number_of self.now }
     {

@@ -1,4 +1,4 @@
-//! What the lines of operations that are taken back leave.
+//! The state after the lines of operations that are taken back.
 
 ghost use Rattle.std.specs.Prelude.{◌≡◌, IfOk};
 ghost use Rattle.mt_op.specs.Bodies.{act_of};
@@ -21,7 +21,7 @@ fn changed_presence<A: Allocator>(item: Stamp, taken: &TakenBack<'_, A>) -> bool
     taken.ready && taken.back.is_none() && taken.op.item() == item
 }
 
-/// Whether an item is present where these operations have been taken back.
+/// Whether an item is present after these operations have been taken back.
 pub(crate) fn is_there<A: Allocator>(
     items: &ItemStates<A>,
     behind: &[TakenBack<'_, A>],
@@ -37,7 +37,7 @@ pub(crate) fn is_there<A: Allocator>(
     items.is_present(item)
 }
 
-// Who wrote a field before an operation did.
+// The stamp of the write of a field before an operation wrote it.
 fn writer_before<A: Allocator>(writer: Stamp, back: &Option<StandingAct<A>>) -> Stamp
     ensures { result ≡ writer_before writer back.now }
 {
@@ -47,7 +47,7 @@ fn writer_before<A: Allocator>(writer: Stamp, back: &Option<StandingAct<A>>) -> 
     }
 }
 
-// Whose value is left in a field where an operation is taken back.
+// The stamp of the write whose value a field has after an operation is taken back.
 fn left_before<A: Allocator>(left: Stamp, taken: &TakenBack<'_, A>) -> Stamp
     ensures { result ≡ left_before left taken.now }
 {
@@ -58,7 +58,8 @@ fn left_before<A: Allocator>(left: Stamp, taken: &TakenBack<'_, A>) -> Stamp
     }
 }
 
-/// Whose value stands in a field where these operations have been taken back: `writer` wrote last.
+/// The stamp of the write whose value a field has after these operations have been taken back;
+/// `writer` wrote it last.
 pub(crate) fn writer_left<A: Allocator>(writer: Stamp, behind: &[TakenBack<'_, A>]) -> Stamp
     ensures { result ≡ writer_left writer behind.now }
 {
@@ -69,7 +70,7 @@ pub(crate) fn writer_left<A: Allocator>(writer: Stamp, behind: &[TakenBack<'_, A
     left
 }
 
-/// Who wrote last to the field that an operation writes.
+/// The stamp of the last write to the field that an operation writes.
 pub(crate) fn last_writer<A: Allocator + Clone>(
     items: &ItemStates<A>,
     log: &Log<A>,
@@ -81,7 +82,7 @@ pub(crate) fn last_writer<A: Allocator + Clone>(
     Ok(writer_before(op.stamp(), &last))
 }
 
-// The track that a line names beside its item.
+// The track that a line names in addition to its item.
 fn other_item<A: Allocator>(body: &Body<A>) -> Option<Stamp>
     ensures { result ≡ other_item (act_of body.now) }
 {
@@ -92,7 +93,7 @@ fn other_item<A: Allocator>(body: &Body<A>) -> Option<Stamp>
     }
 }
 
-/// The first item that a line names and that is absent where these operations have been taken back.
+/// The first item that a line names and that is absent after these operations have been taken back.
 pub(crate) fn first_absent<A: Allocator>(
     items: &ItemStates<A>,
     behind: &[TakenBack<'_, A>],

@@ -1,5 +1,5 @@
-//! The script that takes operations of a log back: what stood before each is written again, the
-//! newest first.
+//! The script that takes back operations of a log: the newest first, it writes again the values
+//! before each of them.
 //!
 //! ```rust
 //! use mt_op::{Body, Op, Title};
@@ -37,8 +37,8 @@
 //! }
 //! ```
 //!
-//! Each line is one of a script, or a remark, which begins with `# ` and tells why no line takes
-//! the operation back. `specs/Before.antt` is what stood before an operation, and
+//! Each line is one of a script, or a comment, which begins with `# ` and says why no line takes
+//! the operation back. `specs/Before.antt` defines the state before an operation, and
 //! `specs/Revert.antt` the text.
 #![tactic(auto)]
 

@@ -17,7 +17,7 @@ use session_state::ItemStates;
 use std::alloc::{AllocError, Allocator};
 use text_log::append_act;
 
-// Writes the remark on an operation that waits.
+// Appends the comment about an operation that waits.
 fn append_waits<A: Allocator>(text: &mut String<A>, own: Stamp) -> Result<(), AllocError>
     ensures { OnOk result (string_bytes text.new ≡ string_bytes text.old ++ waits own) }
 {
@@ -25,7 +25,7 @@ fn append_waits<A: Allocator>(text: &mut String<A>, own: Stamp) -> Result<(), Al
     text.push_str(" waits: it changes nothing")
 }
 
-// Writes the line of what added, removed or restored an item.
+// Appends the line for an operation that added, removed or restored an item.
 fn append_presence<A: Allocator>(
     text: &mut String<A>,
     was: bool,
@@ -49,7 +49,7 @@ fn append_presence<A: Allocator>(
     }
 }
 
-// Writes a line that is not to be read, and a stamp and words that tell why.
+// Appends a change as a comment, with a stamp and words for the reason.
 fn append_remark<A: Allocator, B: Allocator, C: Allocator>(
     alloc: &A,
     text: &mut String<B>,
@@ -68,7 +68,7 @@ fn append_remark<A: Allocator, B: Allocator, C: Allocator>(
     Ok(())
 }
 
-// Writes the line of what wrote a field.
+// Appends the line for an operation that wrote a field.
 fn append_field<A: Allocator, B: Allocator, C: Allocator>(
     alloc: &A,
     text: &mut String<B>,
@@ -87,7 +87,7 @@ fn append_field<A: Allocator, B: Allocator, C: Allocator>(
     }
 }
 
-// Writes the line of an operation that is ready, those behind it being taken back.
+// Appends the line of a ready operation, after the later ones have been taken back.
 fn append_ready<A: Allocator + Clone, B: Allocator>(
     alloc: &A,
     text: &mut String<B>,
@@ -108,7 +108,7 @@ fn append_ready<A: Allocator + Clone, B: Allocator>(
     append_field(alloc, text, &back.body, absent, taken.op.stamp(), writer)
 }
 
-// Writes what stands in the line of an operation, those behind it being taken back.
+// Appends the words of the line of an operation, after the later ones have been taken back.
 fn append_words<A: Allocator + Clone, B: Allocator>(
     alloc: &A,
     text: &mut String<B>,
@@ -127,7 +127,7 @@ fn append_words<A: Allocator + Clone, B: Allocator>(
     }
 }
 
-// Writes the line of an operation, those behind it being taken back.
+// Appends the line of an operation, after the later ones have been taken back.
 fn append_line<A: Allocator + Clone, B: Allocator>(
     alloc: &A,
     text: &mut String<B>,
@@ -144,7 +144,7 @@ fn append_line<A: Allocator + Clone, B: Allocator>(
     Ok(())
 }
 
-/// Writes the lines of operations, of which the last one stands first.
+/// Appends the lines of operations, the last one first.
 pub(crate) fn append_lines<A: Allocator + Clone, B: Allocator>(
     alloc: &A,
     text: &mut String<B>,

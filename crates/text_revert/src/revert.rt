@@ -38,7 +38,7 @@ fn first_missing<A: Allocator>(log: &Log<A>, stamps: &[Stamp]) -> Option<Stamp>
     None
 }
 
-// The same stamps, in order.
+// These stamps, sorted.
 fn sorted<A: Allocator>(alloc: A, stamps: &[Stamp]) -> Result<Vec<Stamp, A>, AllocError>
     ensures { IfOk result (λ sorted. sorted.items ≡ sort_by stamp_cmp stamps.now) }
 {
@@ -48,7 +48,7 @@ fn sorted<A: Allocator>(alloc: A, stamps: &[Stamp]) -> Result<Vec<Stamp, A>, All
     Ok(sorted)
 }
 
-// Writes the script behind what `text` holds.
+// Appends the script to `text`.
 fn append_script<A: Allocator + Clone, B: Allocator>(
     alloc: &A,
     text: &mut String<B>,
@@ -65,13 +65,14 @@ fn append_script<A: Allocator + Clone, B: Allocator>(
     Ok(())
 }
 
-/// The script that takes the operations of these stamps back: a line for each, the newest first and
-/// each once, with which an editor writes what the ready operations of smaller stamps left. A
-/// remark stands in place of a line that would do nothing or harm. The page on output describes it.
+/// The script that takes back the operations of these stamps: a line for each, the newest first and
+/// each once, with which an editor writes again what the ready operations with smaller stamps left.
+/// A line that would have no effect, or would do harm, is replaced by a comment. The page on output
+/// describes the text.
 ///
-/// `NoSuchItem` (21) with the first of the stamps, as they are given, that no operation of the log
-/// has: before all else. `Memory` (0) where memory runs out. In a time of n log n for n operations,
-/// and of k stamps k times k steps at most, which look at no operation.
+/// Errors: first `NoSuchItem` (21) with the first of the given stamps that no operation of the log
+/// has; `Memory` (0) if memory runs out. Takes O(n log n) time for n operations, and at most k * k
+/// steps for k stamps, which read no operations.
 pub fn revert_text<A: Allocator + Clone>(
     alloc: A,
     log: &Log<A>,

@@ -1,4 +1,4 @@
-//! What stands in the field that an operation writes.
+//! The value of the field that an operation writes.
 
 ghost use Rattle.std.specs.Prelude.{◌≡◌, option_map, IfOk};
 ghost use Rattle.mt_op.specs.OpValue.{MoveTrack, MoveClip, TrimClip, SetGain, SetMute, MoveMarker};
@@ -16,7 +16,7 @@ use session_state::ItemStates;
 use std::alloc::{AllocError, Allocator};
 use std::marker::Model;
 
-/// What stands in a field: who wrote it, and the body of an operation that writes it again.
+/// The value of a field: the stamp of its write, and the body of an operation that writes it again.
 #[derive(Drop)]
 pub(crate) struct StandingAct<A: Allocator> {
     pub(crate) writer: Stamp,
@@ -46,7 +46,7 @@ fn place_track<A: Allocator>(log: &Log<A>, place: Stamp) -> Stamp
     }
 }
 
-// Of the place that a track comes after, its track.
+// The track of the place after which a track is.
 fn after_track<A: Allocator>(log: &Log<A>, after: Option<Stamp>) -> Option<Stamp>
     ensures { result ≡ option_map (place_track log.now) after }
 {
@@ -207,8 +207,8 @@ fn marker_length<A: Allocator>(items: &ItemStates<A>, marker: Stamp) -> Option<S
     }
 }
 
-/// What stands in the field that an operation writes. What adds, removes or restores an item has
-/// none.
+/// The value of the field that an operation writes. An operation that adds, removes or restores an
+/// item has none.
 pub(crate) fn standing<A: Allocator + Clone>(
     items: &ItemStates<A>,
     log: &Log<A>,

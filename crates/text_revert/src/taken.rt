@@ -1,4 +1,4 @@
-//! The operations that are taken back, and what stood before each.
+//! The operations that are taken back, and the state before each.
 
 ghost use Rattle.std.specs.Prelude.{◌≡◌, [], ◌∷◌, ◌++◌, map, filter, IfOk, OnOk};
 ghost use Rattle.mt_stamp.specs.StampOrder.{stamp_cmp};
@@ -14,8 +14,8 @@ use session_state::ItemStates;
 use std::alloc::{AllocError, Allocator};
 use std::marker::Model;
 
-/// An operation that is taken back, and what stood before it: whether what it needs did, whether
-/// its item was present, and what stood in the field that it writes.
+/// An operation that is taken back, and the state before it: whether its needs were met, whether
+/// its item was present, and the value of the field that it writes.
 #[derive(Drop)]
 pub(crate) struct TakenBack<'a, A: Allocator> {
     pub(crate) op: &'a Op<A>,
@@ -33,14 +33,14 @@ impl<'a, A: Allocator> Model for TakenBack<'a, A> {
         } };
 }
 
-/// Operations that are taken back, by rising stamp, and what stands now.
+/// Operations that are taken back, by rising stamp, and the state after all operations of the log.
 #[derive(Drop)]
 pub(crate) struct Taken<'a, A: Allocator> {
     pub(crate) all: Vec<TakenBack<'a, A>, A>,
     pub(crate) items: ItemStates<A>,
 }
 
-// An operation, and what stands before it.
+// An operation, and the state before it.
 fn taken_after<'a, A: Allocator + Clone>(
     items: &ItemStates<A>,
     log: &Log<A>,
@@ -56,7 +56,7 @@ fn taken_after<'a, A: Allocator + Clone>(
     })
 }
 
-// Whether a stamp is among these, which rise.
+// Whether a stamp is one of these, which rise.
 fn is_among(stamps: &[Stamp], stamp: Stamp) -> bool
     requires rise { Rises stamp_cmp stamps.now }
     ensures { result ≡ is_listed stamps.now stamp }
@@ -64,8 +64,7 @@ fn is_among(stamps: &[Stamp], stamp: Stamp) -> bool
     stamps.binary_search(&stamp).is_ok()
 }
 
-// Puts an operation and what stands before it behind others, where its stamp is one of these, which
-// rise.
+// Appends an operation with the state before it, if its stamp is one of these, which rise.
 fn push_taken<'a, A: Allocator + Clone>(
     all: &mut Vec<TakenBack<'a, A>, A>,
     items: &ItemStates<A>,
@@ -84,8 +83,8 @@ fn push_taken<'a, A: Allocator + Clone>(
     Ok(())
 }
 
-/// Of the operations of a log, by rising stamp, those with one of these stamps, which rise, and
-/// what stands now. Each operation is looked at once.
+/// The operations of a log with one of these stamps, which rise, by rising stamp, and the state
+/// after all operations. Each operation is visited once.
 pub(crate) fn taken_of<'a, A: Allocator + Clone>(
     alloc: &A,
     log: &Log<A>,
@@ -97,12 +96,12 @@ pub(crate) fn taken_of<'a, A: Allocator + Clone>(
     ensures all { IfOk result (λ taken. taken.all.items ≡ all_taken_back log.now stamps.now) }
     ensures items { IfOk result (λ taken. taken.items ≡ now log.now) }
 {
-    // for the proof: that the stamps of a log's operations differ
+    // for the proof: the stamps of a log's operations differ
     let _ = log.runs();
     let mut all = Vec::new(alloc.clone()?);
     let mut items = ItemStates::with_capacity_for(alloc.clone()?, ops)?;
     for op in ops {
-        // for the proof: that the operation names older ones
+        // for the proof: the operation names only older ones
         let _ = op.stamp();
         push_taken(&mut all, &items, log, *op, stamps)?;
         if items.are_needs_met(op) {

@@ -1,5 +1,5 @@
 -- The peaks of recordings in the boxes of clips (profile): in each unit of a box a line up and down
--- from its middle, as long as what is drawn there is loud.
+-- from its middle, whose length shows how loud the frames drawn there are.
 use Rattle.std.specs.Prelude.{ℕ, zero, suc, ◌+◌, ◌*◌, ◌-◌, ◌/◌, ◌^◌, ◌==◌, ◌≡◌, ◌<◌, ◌≤◌, min, max}
 use Rattle.std.specs.Prelude.{unsigned_abs, List, [], ◌++◌, length, codes, Option, Some, None}
 use Rattle.std.specs.Prelude.{if◌then◌else◌}
@@ -11,9 +11,9 @@ use Rattle.mt_sessionview.specs.SessionValue.{Clip}
 use Rattle.text_svg.specs.Placement.{units, width}
 use Rattle.text_svg.specs.XmlText.{numbered}
 
--- ---- how loud a recording is
+-- ---- the loudness of a recording
 
--- the greatest of what the numbers below one have, and 0 where there are none
+-- the greatest value of a function at the numbers below n; 0 if n is 0
 abbrev pub greatest : (ℕ → ℕ) → ℕ → ℕ
 greatest f zero = 0
 greatest f (suc n) = max (greatest f n) (f n)
@@ -22,19 +22,19 @@ greatest f (suc n) = max (greatest f n) (f n)
 abbrev pub magnitude : List ℕ → (channel frame : ℕ) → ℕ
 magnitude recording channel frame = unsigned_abs (sample_or_silence recording frame channel)
 
--- the greatest of a channel in so many frames from one on
+-- the greatest magnitude of a channel in this many frames from a first one on
 abbrev pub channel_peak : List ℕ → (channel first count : ℕ) → ℕ
 channel_peak recording channel first count = greatest (λ k. magnitude recording channel (first + k))
     count
 
--- the greatest of all channels
+-- the greatest magnitude of all channels
 abbrev pub peak : List ℕ → (first count : ℕ) → ℕ
 peak recording first count = greatest (λ channel. channel_peak recording channel first count)
     (channels_of recording)
 
 -- ---- columns: one for each unit of a box, from 0 on
 
--- the first frame of the session that is drawn in a unit or behind it
+-- the first frame of the session that is drawn in a unit or after it
 abbrev pub unit_start : (span unit : ℕ) → ℕ
 unit_start span unit = div_ceil (unit * span) 1200
 
@@ -42,7 +42,8 @@ unit_start span unit = div_ceil (unit * span) 1200
 abbrev pub column_start : (span at k : ℕ) → ℕ
 column_start span at k = max at (unit_start span (units span at + k))
 
--- how many are; none may be, where units are more than frames
+-- the number of frames of a clip that are drawn in a unit of its box; it may be 0 if there are more
+-- units than frames
 abbrev pub column_count : (span at len k : ℕ) → ℕ
 column_count span at len k = min (at + len) (unit_start span (units span at + k + 1)) - column_start
     span at k
@@ -54,21 +55,21 @@ column_peak recording span c k = peak recording (c.offset + (column_start span c
 
 -- ---- lines
 
--- how far a line goes up, and down: 15 units at most
+-- the height of a line above the middle, and its depth below it: 15 units at most
 abbrev pub half_height : ℕ → ℕ
 half_height peak = peak * 15 / 2 ^ 31
 
--- a line of a column, where it goes anywhere
+-- the line of a column; nothing if its height is 0
 abbrev pub line : (k half_height : ℕ) → List ℕ
 line k half_height = if half_height == 0 then [] else numbered (codes "M") k
     ++ (numbered (codes " ") (16 - half_height) ++ numbered (codes "v") (2 * half_height))
 
--- the lines of so many columns
+-- the lines of this many columns
 abbrev pub lines : List ℕ → (span : ℕ) → Clip → (count : ℕ) → List ℕ
 lines recording span c count = flat_map (λ k. line k (half_height (column_peak recording span c k)))
     (range_with_len 0 count)
 
--- those of all columns of a clip
+-- the lines of all columns of a clip
 abbrev pub all_lines : List ℕ → (span : ℕ) → Clip → List ℕ
 all_lines recording span c = lines recording span c (width span c.at c.len)
 
@@ -77,29 +78,29 @@ abbrev pub path : List ℕ → List ℕ
 path drawn = codes "<path class=\"peaks\" stroke=\"#246\" stroke-opacity=\".5\" d=\""
     ++ (drawn ++ codes "\"/>")
 
--- where there are any
+-- lines as one element; nothing if there are none
 abbrev pub path_of_any : List ℕ → List ℕ
 path_of_any drawn = if length drawn == 0 then [] else path drawn
 
--- the peaks of a clip, where its recording is at hand
+-- the peaks of a clip; nothing if its recording is not available
 abbrev pub clip_peaks : Option (List ℕ) → (span : ℕ) → Clip → List ℕ
 clip_peaks None span c = []
 clip_peaks (Some recording) span c = path_of_any (all_lines recording span c)
 
--- ---- what `laws` says of these
+-- ---- conditions of the laws
 
--- a channel of a recording, and one of so many frames from one on
+-- this is a channel of a recording, and one of this many frames from a first one on
 pub record IsHeard (recording : List ℕ) (first count channel frame : ℕ) : Type 0 where
   pub is_channel : channel < channels_of recording
   pub from : first ≤ frame
   pub before : frame < first + count
 
--- a frame of the session is one of a column
+-- this frame of the session belongs to a column
 pub record IsInColumn (span at len k frame : ℕ) : Type 0 where
   pub from : column_start span at k ≤ frame
   pub before : frame < column_start span at k + column_count span at len k
 
--- a frame of the session is one of a clip, and drawn in this unit of its box
+-- this frame of the session belongs to a clip, and is drawn in this unit of its box
 pub record IsDrawnAt (span at len k frame : ℕ) : Type 0 where
   pub from : at ≤ frame
   pub before : frame < at + len

@@ -17,7 +17,7 @@ use Rattle.text_svg.specs.XmlText.{escaped, numbered, title_text}
 
 -- ---- pieces
 
--- where an element is, and how large
+-- the position and the size of an element
 abbrev pub area : (x y width height : ℕ) → List ℕ
 area x y width height =
     numbered (codes " x=\"") x ++ (numbered (codes "\" y=\"") y
@@ -33,12 +33,13 @@ vertical class x top bottom =
     codes "<path class=\"" ++ (class ++ (numbered (codes "\" d=\"M") x
         ++ (numbered (codes " ") top ++ (numbered (codes "V") bottom ++ codes "\"/>"))))
 
--- ` NUM/DEN`, where it is not 1/1
+-- ` NUM/DEN`, if it is not 1/1
 abbrev pub gain_text : Gain → List ℕ
 gain_text g = if g.num == 1 && g.den == 1 then [] else numbered (codes " ") g.num
     ++ numbered (codes "/") g.den
 
--- ` mute`, where it is muted: a word of a track's label, and a class of what is drawn in grey
+-- ` mute`, if a track or clip is muted: a word of a track's label, and a class of what is drawn in
+-- grey
 abbrev pub mute_text : Bool → List ℕ
 mute_text mute = if mute then codes " mute" else []
 
@@ -56,7 +57,7 @@ tick x bottom second =
     ++ (numbered (codes "<text class=\"time\" x=\"") x
         ++ (codes "\" y=\"14\">" ++ (time_text second ++ codes "</text>\n")))
 
--- those from 0 on in steps of so many seconds, so many
+-- this many times, from 0 on in steps of this many seconds
 abbrev pub ticks_by : (step count rate span bottom : ℕ) → List ℕ
 ticks_by step count rate span bottom =
     flat_map (λ k. tick (x_at span (k * step * rate)) bottom (k * step)) (range_with_len 0 count)
@@ -65,10 +66,10 @@ abbrev pub ticks : (rate span bottom : ℕ) → List ℕ
 ticks rate span bottom = ticks_by (step (span / rate)) (span / rate / step (span / rate) + 1) rate
     span bottom
 
--- ---- clips: a box of its own for each, which hides what would be outside
+-- ---- clips: a separate box for each, which hides everything outside it
 
--- A ramp that is so wide, with what is above it: to the right from the lower left corner of a box,
--- and to the left from the lower right one of a box of a width.
+-- A ramp of this width, with the area above it: to the right from the lower left corner of a box,
+-- and to the left from the lower right corner of a box of a width.
 abbrev pub rising : ℕ → List ℕ
 rising long = numbered (codes "<path class=\"fade\" d=\"M0 32l") long
     ++ (numbered (codes " -32h-") long ++ codes "z\"/>")
@@ -78,7 +79,7 @@ falling width long =
     numbered (codes "<path class=\"fade\" d=\"M") width
         ++ (numbered (codes " 32l-") long ++ (numbered (codes " -32h") long ++ codes "z\"/>"))
 
--- fades over so many frames, where these are any
+-- fades over this many frames, if there are any
 abbrev pub fade_in : (span frames : ℕ) → List ℕ
 fade_in span frames = if frames == 0 then [] else rising (units span frames)
 
@@ -89,7 +90,8 @@ abbrev pub clip_head : (x width : ℕ) → Bool → List ℕ
 clip_head x width mute = codes "<svg class=\"clip"
     ++ (mute_text mute ++ (codes "\"" ++ (area x 4 width 32 ++ codes ">")))
 
--- the stamp, which is shown where the mouse points at the box, and how the clip is drawn
+-- the stamp, which is shown when the mouse points at the box, and then the rectangle and the fades
+-- of the clip
 abbrev pub clip_body : (span width : ℕ) → Stamp → (frames_in frames_out : ℕ) → List ℕ
 clip_body span width stamp frames_in frames_out =
     codes "<title>" ++ (stamp_text stamp ++ (codes "</title>"
@@ -114,7 +116,7 @@ track_head index mute =
     codes "<g class=\"track" ++ (mute_text mute ++ (numbered
         (codes "\" transform=\"translate(0 ") (row_top index) ++ codes ")\">\n"))
 
--- the title, and how the track sounds
+-- the title, the gain, and whether the track is muted
 abbrev pub track_label : List ℕ → Gain → Bool → List ℕ
 track_label title gain mute =
     codes "<svg width=\"192\" height=\"40\">" ++ (title_text title
@@ -130,16 +132,16 @@ track_text sources span index t =
 
 -- ---- markers
 
--- the frames of a marker, where these are so wide; a point has none
+-- the band of a marker's frames; nothing if it has no width, as for a point
 abbrev pub band : (x top bottom wide : ℕ) → List ℕ
 band x top bottom wide = if wide == 0 then [] else rect x top wide (bottom - top)
 
--- a title, of which 160 units are shown
+-- the first 160 units of a title
 abbrev pub name_text : (x top : ℕ) → List ℕ → List ℕ
 name_text x top title = codes "<svg" ++ (area x top 160 16
     ++ (codes "><text x=\"4\" y=\"12\">" ++ (escaped title ++ codes "</text></svg>")))
 
--- from a height on
+-- a marker from a height on
 abbrev pub marker_from : (x top bottom wide : ℕ) → List ℕ → List ℕ
 marker_from x top bottom wide title =
     codes "<g class=\"marker\">" ++ (title_text title ++ (band x top bottom wide
@@ -151,7 +153,7 @@ marker_text span bottom index m = marker_from (x_at span m.at) (name_top index) 
 
 -- ---- the picture
 
--- what is written of each of these, which are numbered from k on
+-- the texts of these elements, which are numbered from k on
 abbrev pub each : {X : Type 0} → (ℕ → X → List ℕ) → ℕ → List X → List ℕ
 each f k [] = []
 each f k (x ∷ xs) = f k x ++ each f (k + 1) xs
@@ -174,14 +176,14 @@ abbrev pub ground : ℕ → List ℕ
 ground height = numbered (codes "<rect width=\"1560\" height=\"") height
     ++ codes "\" fill=\"#fff\"/>\n"
 
--- of so many frames, with rows to so many units from the top
+-- the picture of a span of frames, with rows to this many units from the top
 abbrev pub picture : (rate span bottom : ℕ) → Sources → Session → List ℕ
 picture rate span bottom sources c =
     head (bottom + 8) ++ (style ++ (ground (bottom + 8) ++ (ticks rate span bottom
     ++ (each (track_text sources span) 0 c.tracks ++ (each (marker_text span bottom) 0 c.markers
         ++ codes "</svg>\n")))))
 
--- at so many frames a second, with the recordings that are at hand
+-- the picture of a session, at a rate in frames per second, with the available recordings
 abbrev pub svg_text : ℕ → Sources → Session → List ℕ
 svg_text rate sources c = picture rate (span c.tracks c.markers) (row_top (length c.tracks)) sources
     c

@@ -1,13 +1,13 @@
--- How text and numbers stand in XML (Extensible Markup Language 1.0, fifth edition).
+-- Text and numbers in XML (Extensible Markup Language 1.0, fifth edition).
 use Rattle.std.specs.Prelude.{ℕ, ◌==◌, ◌||◌, List, ◌++◌, codes, if◌then◌else◌}
 use Rattle.std.specs.Char.{encode_utf8}
 use Rattle.std.specs.Fmt.{decimal}
 use Rattle.std.specs.List.{flat_map}
 use Rattle.std.specs.Str.{chars}
 
--- A character of a title: five as the entities of section 4.6. U+FFFE and U+FFFF, alone of those
--- that a title can hold, are no characters of XML (section 2.2): they become U+FFFD, the
--- replacement character.
+-- A character of a title: five characters are written as the entities of section 4.6. U+FFFE and
+-- U+FFFF are the only characters that a title can have and XML cannot (section 2.2): they become
+-- U+FFFD, the replacement character.
 abbrev pub escaped_char : ℕ → List ℕ
 escaped_char c =
     if c == 38 then codes "&amp;"
@@ -21,10 +21,10 @@ escaped_char c =
 abbrev pub escaped : List ℕ → List ℕ
 escaped text = flat_map escaped_char (chars text)
 
--- a text and a number behind it
+-- a text and a number after it
 abbrev pub numbered : List ℕ → ℕ → List ℕ
 numbered before number = before ++ decimal number
 
--- the element `title`, which is shown where the mouse points at what has it
+-- the element `title`, which is shown when the mouse points at its parent
 abbrev pub title_text : List ℕ → List ℕ
 title_text title = codes "<title>" ++ (escaped title ++ codes "</title>")

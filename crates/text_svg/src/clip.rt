@@ -1,4 +1,4 @@
-//! Clips.
+//! The boxes of clips.
 
 ghost use Rattle.std.specs.Prelude.{◌≤◌, ◌^◌, take, OnOk};
 ghost use Rattle.std.specs.List.{flat_map};
@@ -18,7 +18,7 @@ use mt_sessionview::ClipView;
 use mt_stamp::Stamp;
 use std::alloc::{AllocError, Allocator};
 
-// Writes the ramp of a fade at the front, so wide.
+// Appends the ramp of a fade-in of this width.
 fn append_rising<A: Allocator>(text: &mut String<A>, long: u64) -> Result<(), AllocError>
     ensures { OnOk result (Adds text.old text.new (rising long)) }
 {
@@ -27,7 +27,7 @@ fn append_rising<A: Allocator>(text: &mut String<A>, long: u64) -> Result<(), Al
     append(text, "z\"/>")
 }
 
-// Writes the ramp of a fade at the end of a box of a width, so wide.
+// Appends the ramp of a fade-out of this width, at the end of a box of a width.
 fn append_falling<A: Allocator>(
     text: &mut String<A>,
     width: u64,
@@ -41,7 +41,7 @@ fn append_falling<A: Allocator>(
     append(text, "z\"/>")
 }
 
-// Writes the fade at the front, where there is one.
+// Appends the fade-in, if there is one.
 #[tactic(auto, using(crate::proofs::Added::adds_none))]
 fn append_fade_in<A: Allocator>(
     text: &mut String<A>,
@@ -57,7 +57,7 @@ fn append_fade_in<A: Allocator>(
     append_rising(text, units(span, u64::from(frames)))
 }
 
-// Writes the fade at the end, where there is one.
+// Appends the fade-out, if there is one.
 #[tactic(auto, using(crate::proofs::Added::adds_none))]
 fn append_fade_out<A: Allocator>(
     text: &mut String<A>,
@@ -74,7 +74,7 @@ fn append_fade_out<A: Allocator>(
     append_falling(text, width, units(span, u64::from(frames)))
 }
 
-// Opens the box of a clip.
+// Appends the beginning of a clip's box.
 fn append_clip_head<A: Allocator>(
     text: &mut String<A>,
     x: u64,
@@ -90,14 +90,14 @@ fn append_clip_head<A: Allocator>(
     append(text, ">")
 }
 
-// Writes a stamp.
+// Appends a stamp.
 fn append_stamp<A: Allocator>(text: &mut String<A>, stamp: Stamp) -> Result<(), AllocError>
     ensures { OnOk result (Adds text.old text.new (stamp_text stamp)) }
 {
     stamp.append_text(text)
 }
 
-// Writes the stamp of a clip, and how it is drawn.
+// Appends the stamp of a clip, its rectangle and its fades.
 fn append_clip_body<A: Allocator>(
     text: &mut String<A>,
     span: u64,
@@ -118,7 +118,7 @@ fn append_clip_body<A: Allocator>(
     append_fade_out(text, span, width, frames_out)
 }
 
-// Writes the first eight digits of a digest.
+// Appends the first eight digits of a digest.
 fn append_digest<A: Allocator, B: Allocator + Clone>(
     alloc: &B,
     text: &mut String<A>,
@@ -130,7 +130,7 @@ fn append_digest<A: Allocator, B: Allocator + Clone>(
     append(text, &digits)
 }
 
-// Writes what stands in the box of a clip.
+// Appends the text in the box of a clip.
 fn append_clip_label<A: Allocator, B: Allocator + Clone>(
     alloc: &B,
     text: &mut String<A>,
@@ -145,7 +145,7 @@ fn append_clip_label<A: Allocator, B: Allocator + Clone>(
     append(text, "</text>")
 }
 
-// Writes a clip.
+// Appends a clip.
 fn append_clip<A: Allocator, B: Allocator + Clone, C: Allocator>(
     alloc: &B,
     text: &mut String<A>,
@@ -165,7 +165,7 @@ fn append_clip<A: Allocator, B: Allocator + Clone, C: Allocator>(
     append(text, "</svg>\n")
 }
 
-/// Writes clips, in order.
+/// Appends clips, in order.
 #[tactic(auto, using(crate::proofs::Added::adds_none))]
 pub(crate) fn append_clips<A: Allocator, B: Allocator + Clone, C: Allocator>(
     alloc: &B,

@@ -1,18 +1,18 @@
-//! The columns of a clip's box: which frames are drawn in each unit of it.
+//! The columns of a clip's box: the frames that are drawn in each unit of it.
 
 ghost use Rattle.std.specs.Prelude.{◌≡◌, ◌*◌, ◌<◌, ◌^◌};
 ghost use Rattle.text_svg.specs.Peaks.{unit_start};
 
 use crate::placement::units;
 
-/// Frames of a session, one after another.
+/// Consecutive frames of a session.
 #[derive(Clone, Copy)]
 pub(crate) struct Column {
     pub(crate) start: u64,
     pub(crate) count: u64,
 }
 
-// The first frame that is drawn in a unit or behind it.
+// The first frame that is drawn in a unit or after it.
 fn unit_start(span: u64, unit: u64) -> u64
     requires { unit * span < 2 ^ 45 }
     ensures { result ≡ unit_start span unit }

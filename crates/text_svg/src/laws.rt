@@ -1,4 +1,4 @@
-//! Laws of the definitions. Each function does nothing: its contract is the law.
+//! The laws of the definitions: each is the contract of a function that does nothing.
 
 ghost use Rattle.std.specs.Prelude.{◌≡◌, ◌↔◌, ℕ, ◌<◌, ◌≤◌, List, [], None};
 ghost use Rattle.mt_op.specs.declared.digest.Digest.{Digest};
@@ -7,14 +7,14 @@ ghost use Rattle.mt_sessionview.specs.SessionValue.{Session as SessionValue};
 ghost use Rattle.text_svg.specs.Peaks.{magnitude, peak, IsHeard, IsInColumn, IsDrawnAt};
 ghost use Rattle.text_svg.specs.Svg.{svg_text};
 
-/// The frames of a column are those of the clip that are drawn in its unit, and no others.
+/// The frames of a column are exactly those of the clip that are drawn in its unit.
 pub fn columns_by_units()
     ensures { (span at len k frame : ℕ) → 1 ≤ span → IsInColumn span at len k frame
         ↔ IsDrawnAt span at len k frame }
 {}
 
-/// No sample of any channel in some frames is louder than their peak, and where that is not 0 there
-/// is one that is as loud.
+/// No sample of any channel in a range of frames is louder than the peak of the range, and if the
+/// peak is not 0, a sample reaches it.
 pub fn peak_is_greatest()
     ensures most { (recording : List ℕ) (first count channel frame : ℕ)
         → IsHeard recording first count channel frame
@@ -24,8 +24,8 @@ pub fn peak_is_greatest()
             × (magnitude recording channel frame ≡ peak recording first count))) }
 {}
 
-/// Where no recording is at hand, the picture is the one without any: no box has an element for its
-/// peaks.
+/// If no recording is available, the picture is the one without recordings: no box has an element
+/// for its peaks.
 pub fn without_recordings()
     ensures { (rate : ℕ) (sources : Sources) (c : SessionValue)
         → ((d : Digest) → found sources d ≡ None)

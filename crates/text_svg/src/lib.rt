@@ -1,5 +1,5 @@
 //! A session drawn as a picture in SVG: times along the top, a row with its clips for each track,
-//! and over them the markers. The boxes of clips whose recordings are at hand show their peaks.
+//! and over them the markers. The boxes of clips with available recordings show their peaks.
 //!
 //! ```rust
 //! use mt_op::{Body, Op, Title};
@@ -53,16 +53,16 @@
 //! }
 //! ```
 //!
-//! `specs/Svg.antt` is the text, `specs/Placement.antt` says where in the picture things are,
-//! `specs/Peaks.antt` what the peaks of a clip are, and `specs/XmlText.antt` how titles stand in
-//! it; `laws` says that a column has just the frames that are drawn in its unit, that no sample is
-//! louder than a peak, and that without recordings nothing else is changed. The picture names no
-//! other file and runs nothing: a browser shows it, and drawing programs read it. Where clips lie
-//! over one another, the one that begins later is drawn over the other.
+//! `specs/Svg.antt` defines the text, `specs/Placement.antt` the positions in the picture,
+//! `specs/Peaks.antt` the peaks of a clip, and `specs/XmlText.antt` how titles are written. By
+//! `laws` a column has exactly the frames that are drawn in its unit, no sample is louder than the
+//! peak of its frames, and the picture without available recordings is that of an empty catalogue.
+//! The picture refers to no other file and runs nothing: a browser shows it, and drawing programs
+//! read it. If clips overlap, the one that begins later is drawn over the other.
 //!
-//! What peaks cost: each sample of a clip that is drawn and stands in its recording is read once,
-//! on each of its channels, in loops that look at nothing else, into one buffer; a clip takes
-//! memory for its lines, and a column none.
+//! The cost of peaks: each sample of a clip that is drawn and is within its recording is read once,
+//! for each channel of the recording, in loops that do nothing else, into one buffer. A clip needs
+//! memory for its lines, a column none.
 #![tactic(auto)]
 
 mod clip;

@@ -1,4 +1,4 @@
-//! Markers.
+//! The markers.
 
 ghost use Rattle.std.specs.Prelude.{◌≤◌, OnOk};
 ghost use Rattle.text_svg.specs.Adding.{Adds};
@@ -10,7 +10,7 @@ use crate::xml::{append, append_escaped, append_title};
 use mt_sessionview::MarkerView;
 use std::alloc::{AllocError, Allocator};
 
-// Writes the frames of a marker, where these are so wide.
+// Appends the band of a marker's frames, if it has a width.
 #[tactic(auto, using(crate::proofs::Added::adds_none))]
 fn append_band<A: Allocator>(
     text: &mut String<A>,
@@ -28,7 +28,7 @@ fn append_band<A: Allocator>(
     append_rect(text, x, top, wide, bottom - top)
 }
 
-// Writes the title of a marker.
+// Appends the title of a marker.
 fn append_name<A: Allocator>(
     text: &mut String<A>,
     x: u64,
@@ -44,7 +44,7 @@ fn append_name<A: Allocator>(
     append(text, "</text></svg>")
 }
 
-// Writes a marker from a height on.
+// Appends a marker that begins at this height.
 fn append_marker_from<A: Allocator>(
     text: &mut String<A>,
     x: u64,
@@ -64,7 +64,7 @@ fn append_marker_from<A: Allocator>(
     append(text, "</g>\n")
 }
 
-// Writes a marker.
+// Appends a marker.
 fn append_marker<A: Allocator, B: Allocator>(
     text: &mut String<A>,
     span: u64,
@@ -81,7 +81,7 @@ fn append_marker<A: Allocator, B: Allocator>(
     append_marker_from(text, x, name_top(index), bottom, wide, marker.title.text())
 }
 
-/// Writes markers, in order.
+/// Appends markers, in order.
 #[tactic(auto, using(crate::proofs::Added::adds_none))]
 pub(crate) fn append_markers<A: Allocator, B: Allocator>(
     text: &mut String<A>,

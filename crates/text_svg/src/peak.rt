@@ -1,4 +1,4 @@
-//! How loud recordings are.
+//! The peaks of recordings.
 
 ghost use Rattle.std.specs.Prelude.{◌≡◌, ◌+◌, ◌<◌, ◌≤◌, ◌^◌, length, unsigned_abs};
 ghost use Rattle.mt_bwfread.specs.Fill.{at};
@@ -20,7 +20,8 @@ fn loudest(samples: &[i32]) -> u32
     peak
 }
 
-// The greatest magnitude of a channel in as many frames from one on as there is room for.
+// The greatest magnitude of a channel in as many consecutive frames, from a first one on, as
+// `samples` has room for.
 #[tactic(auto, using(crate::proofs::Loudness::greatest_alike))]
 fn piece_peak(wave: &Wave<'_>, channel: u16, first: u64, samples: &mut [i32]) -> u32
     requires { channel < channels_of wave.now }
@@ -31,8 +32,8 @@ fn piece_peak(wave: &Wave<'_>, channel: u16, first: u64, samples: &mut [i32]) ->
     loudest(samples)
 }
 
-// The greatest magnitude of a channel in so many frames from one on. The samples are room to work
-// in.
+// The greatest magnitude of a channel in this many frames from a first one on. `samples` is a
+// buffer.
 fn channel_peak(wave: &Wave<'_>, channel: u16, first: u64, count: u64, samples: &mut [i32]) -> u32
     requires in_channels { channel < channels_of wave.now }
     requires room { 1 ≤ length samples.old }
@@ -40,7 +41,7 @@ fn channel_peak(wave: &Wave<'_>, channel: u16, first: u64, count: u64, samples: 
     ensures value { result ≡ channel_peak wave.now channel first count }
     ensures small { result ≤ 2 ^ 31 }
 {
-    // what is past the last frame is silent
+    // frames after the last one are silent
     let heard = count.min(wave.frames().saturating_sub(first));
     let mut peak: u32 = 0;
     let mut done: u64 = 0;
@@ -52,8 +53,8 @@ fn channel_peak(wave: &Wave<'_>, channel: u16, first: u64, count: u64, samples: 
     peak
 }
 
-/// The greatest magnitude of the samples of all channels in so many frames from one on. The samples
-/// are room to work in.
+/// The greatest magnitude of the samples of all channels in this many frames from a first one on.
+/// `samples` is a buffer.
 #[tactic(auto, using(crate::proofs::Loudness::greatest_more))]
 pub(crate) fn peak(wave: &Wave<'_>, first: u64, count: u64, samples: &mut [i32]) -> u32
     requires room { 1 ≤ length samples.old }

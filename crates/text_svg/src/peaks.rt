@@ -16,10 +16,10 @@ use mt_render::Catalogue;
 use mt_sessionview::ClipView;
 use std::alloc::{AllocError, Allocator};
 
-// The samples that are read at once.
+// The number of samples that are read at once.
 const SAMPLES: usize = 1024;
 
-// How far the line of a column goes up, and down.
+// The height of the line of a column above the middle, and its depth below it.
 fn half_height(peak: u32) -> u64
     requires { peak ≤ 2 ^ 31 }
     ensures value { result ≡ half_height peak }
@@ -28,7 +28,7 @@ fn half_height(peak: u32) -> u64
     u64::from(peak) * 15 / 2147483648
 }
 
-// Writes the line of a column, where it goes anywhere.
+// Appends the line of a column, if it is not empty.
 #[tactic(auto, using(crate::proofs::Added::then_adds, crate::proofs::Added::adds_none))]
 fn append_line<A: Allocator>(
     text: &mut String<A>,
@@ -46,7 +46,7 @@ fn append_line<A: Allocator>(
     append_numbered(text, "v", 2 * half_height)
 }
 
-// How far the line of a column of a clip goes. The samples are room to work in.
+// The height of the line of a clip's column. `samples` is a buffer.
 fn column_reach(wave: &Wave<'_>, span: u64, clip: &ClipView, unit: u64, samples: &mut [i32]) -> u64
     requires some { 1 ≤ span }
     requires span { span ≤ 2 ^ 33 }
@@ -60,7 +60,7 @@ fn column_reach(wave: &Wave<'_>, span: u64, clip: &ClipView, unit: u64, samples:
     half_height(peak(wave, first, column.count, samples))
 }
 
-// Writes the lines of the columns of a clip.
+// Appends the lines of the columns of a clip.
 #[tactic(auto, using(crate::proofs::Added::adds_none))]
 fn append_lines<A: Allocator>(
     text: &mut String<A>,
@@ -80,7 +80,7 @@ fn append_lines<A: Allocator>(
     Ok(())
 }
 
-// Writes lines as one element.
+// Appends lines as one element.
 fn append_path<A: Allocator>(text: &mut String<A>, drawn: &str) -> Result<(), AllocError>
     ensures { OnOk result (Adds text.old text.new (path drawn.now)) }
 {
@@ -92,7 +92,7 @@ fn append_path<A: Allocator>(text: &mut String<A>, drawn: &str) -> Result<(), Al
     append(text, "\"/>")
 }
 
-// The same, where there are any.
+// Appends lines as one element, if there are any.
 #[tactic(auto, using(crate::proofs::Added::adds_none))]
 fn append_path_of_any<A: Allocator>(text: &mut String<A>, drawn: &str) -> Result<(), AllocError>
     ensures { OnOk result (Adds text.old text.new (path_of_any drawn.now)) }
@@ -103,7 +103,7 @@ fn append_path_of_any<A: Allocator>(text: &mut String<A>, drawn: &str) -> Result
     append_path(text, drawn)
 }
 
-// Writes the peaks of a clip, whose recording is this.
+// Appends the peaks of a clip with this recording.
 fn append_peaks_of<A: Allocator, B: Allocator + Clone>(
     alloc: &B,
     text: &mut String<A>,
@@ -121,7 +121,7 @@ fn append_peaks_of<A: Allocator, B: Allocator + Clone>(
     append_path_of_any(text, &drawn)
 }
 
-/// Writes the peaks of a clip, where its recording is in the catalogue.
+/// Appends the peaks of a clip, if its recording is in the catalogue.
 #[tactic(auto, using(crate::proofs::Added::adds_none))]
 pub(crate) fn append_peaks<A: Allocator, B: Allocator + Clone, C: Allocator>(
     alloc: &B,

@@ -1,4 +1,4 @@
-//! Pieces that several parts of the picture have.
+//! Pieces that several parts of the picture share.
 
 ghost use Rattle.std.specs.Prelude.{OnOk};
 ghost use Rattle.text_svg.specs.Adding.{Adds};
@@ -8,7 +8,7 @@ use crate::xml::{append, append_numbered};
 use mt_op::Gain;
 use std::alloc::{AllocError, Allocator};
 
-/// Writes where an element is, and how large.
+/// Appends the position and the size of an element.
 pub(crate) fn append_area<A: Allocator>(
     text: &mut String<A>,
     x: u64,
@@ -25,7 +25,7 @@ pub(crate) fn append_area<A: Allocator>(
     append(text, "\"")
 }
 
-/// Writes a rectangle.
+/// Appends a rectangle.
 pub(crate) fn append_rect<A: Allocator>(
     text: &mut String<A>,
     x: u64,
@@ -40,7 +40,7 @@ pub(crate) fn append_rect<A: Allocator>(
     append(text, "/>")
 }
 
-/// Writes a vertical line of a class.
+/// Appends a vertical line of a class.
 pub(crate) fn append_vertical<A: Allocator>(
     text: &mut String<A>,
     class: &str,
@@ -58,7 +58,7 @@ pub(crate) fn append_vertical<A: Allocator>(
     append(text, "\"/>")
 }
 
-/// Writes ` NUM/DEN`, where it is not 1/1.
+/// Appends ` NUM/DEN`, if it is not 1/1.
 #[tactic(auto, using(crate::proofs::Added::then_adds, crate::proofs::Added::adds_none))]
 pub(crate) fn append_gain<A: Allocator>(text: &mut String<A>, gain: Gain) -> Result<(), AllocError>
     ensures { OnOk result (Adds text.old text.new (gain_text gain)) }
@@ -70,7 +70,7 @@ pub(crate) fn append_gain<A: Allocator>(text: &mut String<A>, gain: Gain) -> Res
     append_numbered(text, "/", u64::from(gain.den()))
 }
 
-/// Writes ` mute`, where it is muted.
+/// Appends ` mute`, if `mute` is true.
 #[tactic(auto, using(crate::proofs::Added::then_adds, crate::proofs::Added::adds_none))]
 pub(crate) fn append_mute<A: Allocator>(text: &mut String<A>, mute: bool) -> Result<(), AllocError>
     ensures { OnOk result (Adds text.old text.new (mute_text mute)) }

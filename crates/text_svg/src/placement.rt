@@ -1,11 +1,11 @@
-//! Where things are in the picture.
+//! The positions of things in the picture.
 
 ghost use Rattle.std.specs.Prelude.{◌≡◌, ◌<◌, ◌≤◌, ◌^◌};
 ghost use Rattle.std.specs.List.{find};
 ghost use Rattle.text_svg.specs.Placement.{units, x_at, width, band_width, row_top, name_top};
 ghost use Rattle.text_svg.specs.Placement.{gives_few, step};
 
-/// So many frames of a span, in units.
+/// This many frames of a span, in units.
 pub(crate) fn units(span: u64, frames: u64) -> u64
     requires span { 1 ≤ span }
     requires frames { frames ≤ 2 ^ 33 }
@@ -15,7 +15,7 @@ pub(crate) fn units(span: u64, frames: u64) -> u64
     frames * 1200 / span
 }
 
-/// Where a frame is drawn.
+/// The x coordinate of a frame.
 pub(crate) fn x_at(span: u64, frame: u64) -> u64
     requires span { 1 ≤ span }
     requires frame { frame ≤ 2 ^ 33 }
@@ -24,7 +24,7 @@ pub(crate) fn x_at(span: u64, frame: u64) -> u64
     200 + units(span, frame)
 }
 
-/// Where a clip or a marker is drawn that begins at a frame.
+/// The x coordinate of a clip or marker that begins at a frame.
 pub(crate) fn start(span: u64, at: u32) -> u64
     requires { 1 ≤ span }
     ensures { result ≡ x_at span at }
@@ -32,7 +32,7 @@ pub(crate) fn start(span: u64, at: u32) -> u64
     x_at(span, u64::from(at))
 }
 
-/// How wide so many frames from one on are drawn.
+/// The width of this many frames from a first one on.
 pub(crate) fn width(span: u64, at: u32, len: u32) -> u64
     requires span { 1 ≤ span }
     ensures value { result ≡ width span at len }
@@ -42,7 +42,7 @@ pub(crate) fn width(span: u64, at: u32, len: u32) -> u64
     units(span, end).saturating_sub(units(span, start)).max(1)
 }
 
-/// How wide so many frames of a marker are drawn: 0 for a point.
+/// The width of this many frames of a marker: 0 for a point.
 pub(crate) fn band_width(span: u64, at: u32, len: u32) -> u64
     requires { 1 ≤ span }
     ensures { result ≡ band_width span at len }
@@ -50,7 +50,7 @@ pub(crate) fn band_width(span: u64, at: u32, len: u32) -> u64
     if len == 0 { 0 } else { width(span, at, len) }
 }
 
-/// Where a row begins.
+/// The y coordinate at which a row begins.
 pub(crate) fn row_top(index: u32) -> u64
     ensures value { result ≡ row_top index }
     ensures small { result < 2 ^ 38 }
@@ -59,7 +59,7 @@ pub(crate) fn row_top(index: u32) -> u64
     72 + 40 * u64::from(index)
 }
 
-/// Where the title of a marker begins.
+/// The y coordinate at which the title of a marker begins.
 pub(crate) fn name_top(index: usize) -> u64
     ensures value { result ≡ name_top index }
     ensures small { result ≤ 52 }
@@ -70,7 +70,7 @@ pub(crate) fn name_top(index: usize) -> u64
 // Steps from one time to the next, in seconds.
 const STEPS: [u16; 12] = [1, 2, 5, 10, 15, 30, 60, 120, 300, 600, 900, 1800];
 
-// The first step that gives few times.
+// The first step that gives at most 12 times.
 fn first_step(steps: &[u16], seconds: u64) -> Option<u16>
     ensures { result ≡ find (gives_few seconds) steps.now }
 {

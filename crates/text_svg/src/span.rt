@@ -1,4 +1,4 @@
-//! How many frames are drawn.
+//! The number of frames that are drawn.
 
 ghost use Rattle.std.specs.Prelude.{◌≡◌, ◌<◌, ◌≤◌, ◌^◌, map};
 ghost use Rattle.std.specs.List.{flat_map};
@@ -7,7 +7,7 @@ ghost use Rattle.text_svg.specs.Placement.{clip_end, marker_end, latest, span};
 use mt_sessionview::{ClipView, MarkerView, TrackView};
 use std::alloc::Allocator;
 
-// The first frame behind a clip.
+// The first frame after a clip.
 fn clip_end(clip: &ClipView) -> u64
     ensures value { result ≡ clip_end clip.now }
     ensures small { result < 2 ^ 33 }
@@ -15,7 +15,7 @@ fn clip_end(clip: &ClipView) -> u64
     u64::from(clip.at) + u64::from(clip.len)
 }
 
-// The first frame behind a marker.
+// The first frame after a marker.
 fn marker_end<A: Allocator>(marker: &MarkerView<A>) -> u64
     ensures value { result ≡ marker_end marker.now }
     ensures small { result < 2 ^ 33 }
@@ -23,7 +23,7 @@ fn marker_end<A: Allocator>(marker: &MarkerView<A>) -> u64
     u64::from(marker.at) + u64::from(marker.len.max(1))
 }
 
-// The first frame behind these clips.
+// The first frame after these clips, at least 1.
 fn clips_end(clips: &[ClipView]) -> u64
     ensures value { result ≡ latest (map clip_end clips.now) }
     ensures small { result < 2 ^ 33 }
@@ -35,7 +35,7 @@ fn clips_end(clips: &[ClipView]) -> u64
     end
 }
 
-// The first frame behind the clips of these tracks.
+// The first frame after the clips of these tracks, at least 1.
 fn tracks_end<A: Allocator>(tracks: &[TrackView<A>]) -> u64
     ensures value { result ≡ latest (flat_map (λ t. map clip_end t.clips) tracks.now) }
     ensures small { result < 2 ^ 33 }
@@ -47,7 +47,7 @@ fn tracks_end<A: Allocator>(tracks: &[TrackView<A>]) -> u64
     end
 }
 
-// The first frame behind these markers.
+// The first frame after these markers, at least 1.
 fn markers_end<A: Allocator>(markers: &[MarkerView<A>]) -> u64
     ensures value { result ≡ latest (map marker_end markers.now) }
     ensures some { 1 ≤ result }
@@ -60,7 +60,7 @@ fn markers_end<A: Allocator>(markers: &[MarkerView<A>]) -> u64
     end
 }
 
-/// How many frames of a session of these are drawn.
+/// The number of frames that are drawn of a session with these tracks and markers.
 pub(crate) fn span<A: Allocator>(tracks: &[TrackView<A>], markers: &[MarkerView<A>]) -> u64
     ensures value { result ≡ span tracks.now markers.now }
     ensures some { 1 ≤ result }

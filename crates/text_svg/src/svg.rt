@@ -16,7 +16,7 @@ use mt_render::Catalogue;
 use mt_sessionview::{Session, TrackView};
 use std::alloc::{AllocError, Allocator};
 
-// Opens the picture.
+// Appends the beginning of the picture.
 fn append_head<A: Allocator>(text: &mut String<A>, height: u64) -> Result<(), AllocError>
     ensures { OnOk result (Adds text.old text.new (head height)) }
 {
@@ -29,7 +29,7 @@ fn append_head<A: Allocator>(text: &mut String<A>, height: u64) -> Result<(), Al
     append(text, "\" font-family=\"sans-serif\" font-size=\"13\">\n")
 }
 
-// How each class is drawn.
+// The style of each class.
 const STYLE: &str = "\
 <style>text{fill:#222}.time{font-size:11px;text-anchor:middle;fill:#666}.tick{stroke:#ccc}
 .row{fill:#000;fill-opacity:.05}.sound,.clip text{font-size:11px}.sound{fill:#666}
@@ -38,14 +38,14 @@ const STYLE: &str = "\
 .marker path{stroke:#c22}.marker rect{fill:#c22;fill-opacity:.15}.marker text{fill:#c22;font-size:11px}</style>
 ";
 
-// Writes how each class is drawn.
+// Appends the style of each class.
 fn append_style<A: Allocator>(text: &mut String<A>) -> Result<(), AllocError>
     ensures { OnOk result (Adds text.old text.new style) }
 {
     append(text, STYLE)
 }
 
-// Writes what is behind everything.
+// Appends the background.
 fn append_ground<A: Allocator>(text: &mut String<A>, height: u64) -> Result<(), AllocError>
     ensures { OnOk result (Adds text.old text.new (ground height)) }
 {
@@ -53,7 +53,8 @@ fn append_ground<A: Allocator>(text: &mut String<A>, height: u64) -> Result<(), 
     append(text, "\" fill=\"#fff\"/>\n")
 }
 
-// Where the rows end. There is no memory for the text of more tracks than are counted in 32 bits.
+// The y coordinate at which the rows end. Fails for 2^32 tracks or more, whose text would not fit
+// into memory.
 fn rows_end<A: Allocator>(tracks: &[TrackView<A>]) -> Result<u64, AllocError>
     ensures value { IfOk result (λ bottom. bottom ≡ row_top (length tracks.now)) }
     ensures some { IfOk result (λ bottom. 72 ≤ bottom) }
@@ -66,7 +67,7 @@ fn rows_end<A: Allocator>(tracks: &[TrackView<A>]) -> Result<u64, AllocError>
     Ok(row_top(count))
 }
 
-// Writes the whole picture.
+// Appends the whole picture.
 fn append_picture<A: Allocator, B: Allocator + Clone, C: Allocator, D: Allocator>(
     alloc: &B,
     text: &mut String<A>,
@@ -94,12 +95,12 @@ fn append_picture<A: Allocator, B: Allocator + Clone, C: Allocator, D: Allocator
     append(text, "</svg>\n")
 }
 
-/// The picture of a session with the peaks of the recordings at hand: one element `svg` of SVG 1.1,
-/// well-formed XML in UTF-8, ended by a line feed. The page on output describes it.
+/// The picture of a session with the peaks of the available recordings: one element `svg` of SVG
+/// 1.1, well-formed XML in UTF-8, ended by a line feed. The page on output describes it.
 ///
-/// Times are at `rate` frames a second, 1 and more. Linear in the session's clips, markers and
-/// titles, and in the samples of the frames that are drawn. Fails where memory runs out, or where
-/// there are 2^32 tracks or more.
+/// Times are at `rate` frames per second, 1 or more. Takes time linear in the session's clips,
+/// markers and titles, and in the samples of the frames that are drawn. Fails if memory runs out,
+/// or if there are 2^32 tracks or more.
 pub fn svg_text<A: Allocator + Clone, B: Allocator, C: Allocator>(
     alloc: A,
     rate: u32,

@@ -9,7 +9,7 @@ use crate::placement::{step, x_at};
 use crate::xml::{append, append_numbered};
 use std::alloc::{AllocError, Allocator};
 
-// Writes a number of seconds as `M:SS`.
+// Appends a number of seconds as `M:SS`.
 fn append_time<A: Allocator>(text: &mut String<A>, second: u64) -> Result<(), AllocError>
     ensures { OnOk result (Adds text.old text.new (time_text second)) }
 {
@@ -18,7 +18,7 @@ fn append_time<A: Allocator>(text: &mut String<A>, second: u64) -> Result<(), Al
     append_numbered(text, "", second % 60 % 10)
 }
 
-// Writes a time, and a line at it.
+// Appends a time, and a line at it.
 fn append_tick<A: Allocator>(
     text: &mut String<A>,
     x: u64,
@@ -34,7 +34,7 @@ fn append_tick<A: Allocator>(
     append(text, "</text>\n")
 }
 
-// Writes the times from 0 on in steps of so many seconds, so many.
+// Appends this many times, from 0 on in steps of this many seconds.
 #[tactic(auto, using(crate::proofs::Added::adds_none, crate::proofs::Counting::tick_within))]
 fn append_ticks_by<A: Allocator>(
     text: &mut String<A>,
@@ -59,7 +59,7 @@ fn append_ticks_by<A: Allocator>(
     Ok(())
 }
 
-/// Writes the times.
+/// Appends the times.
 pub(crate) fn append_ticks<A: Allocator>(
     text: &mut String<A>,
     rate: u32,

@@ -1,4 +1,4 @@
-//! Tracks.
+//! The rows of tracks.
 
 ghost use Rattle.std.specs.Prelude.{◌≤◌, ◌<◌, ◌^◌, length, OnOk};
 ghost use Rattle.text_svg.specs.Adding.{Adds};
@@ -13,7 +13,7 @@ use mt_render::Catalogue;
 use mt_sessionview::TrackView;
 use std::alloc::{AllocError, Allocator};
 
-// Opens the row of a track.
+// Appends the beginning of a track's row.
 fn append_track_head<A: Allocator>(
     text: &mut String<A>,
     index: u32,
@@ -27,7 +27,7 @@ fn append_track_head<A: Allocator>(
     append(text, ")\">\n")
 }
 
-// Writes the title of a track, and how it sounds.
+// Appends the title of a track, its gain, and whether it is muted.
 fn append_track_label<A: Allocator>(
     text: &mut String<A>,
     title: &str,
@@ -46,7 +46,7 @@ fn append_track_label<A: Allocator>(
     append(text, "</text></svg>\n")
 }
 
-// Writes the row of a track.
+// Appends the row of a track.
 fn append_track<A: Allocator, B: Allocator + Clone, C: Allocator, D: Allocator>(
     alloc: &B,
     text: &mut String<A>,
@@ -69,7 +69,7 @@ fn append_track<A: Allocator, B: Allocator + Clone, C: Allocator, D: Allocator>(
     append(text, "</g>\n")
 }
 
-/// Writes the rows of tracks, in order.
+/// Appends the rows of tracks, in order.
 #[tactic(auto, using(crate::proofs::Added::adds_none))]
 pub(crate) fn append_tracks<A: Allocator, B: Allocator + Clone, C: Allocator, D: Allocator>(
     alloc: &B,

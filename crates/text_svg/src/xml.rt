@@ -7,7 +7,7 @@ ghost use Rattle.text_svg.specs.XmlText.{escaped_char, escaped, numbered, title_
 use base_text::append_number;
 use std::alloc::{AllocError, Allocator};
 
-// Writes a character of a title.
+// Appends a character of a title, escaped.
 fn append_escaped_char<A: Allocator>(
     text: &mut String<A>,
     character: char,
@@ -25,7 +25,7 @@ fn append_escaped_char<A: Allocator>(
     }
 }
 
-/// Writes a title.
+/// Appends a title, escaped.
 #[tactic(auto, using(crate::proofs::Added::adds_none))]
 pub(crate) fn append_escaped<A: Allocator>(
     text: &mut String<A>,
@@ -39,14 +39,14 @@ pub(crate) fn append_escaped<A: Allocator>(
     Ok(())
 }
 
-/// Writes a text as it is.
+/// Appends a text unchanged.
 pub(crate) fn append<A: Allocator>(text: &mut String<A>, piece: &str) -> Result<(), AllocError>
     ensures { OnOk result (Adds text.old text.new piece.now) }
 {
     text.push_str(piece)
 }
 
-/// Writes a text and a number behind it, in decimal.
+/// Appends a text, and then a number in decimal.
 pub(crate) fn append_numbered<A: Allocator>(
     text: &mut String<A>,
     before: &str,
@@ -57,7 +57,7 @@ pub(crate) fn append_numbered<A: Allocator>(
     append_number(text, before, number)
 }
 
-/// Writes the element `title`.
+/// Appends the element `title`.
 pub(crate) fn append_title<A: Allocator>(
     text: &mut String<A>,
     title: &str,

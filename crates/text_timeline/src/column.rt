@@ -1,4 +1,4 @@
-//! What begins in columns, and what lies in them.
+//! The clips or markers that begin in columns, or cover them.
 
 ghost use Rattle.std.specs.Prelude.{◌≡◌, ℕ, ◌<◌, ◌≤◌, ◌^◌, [], length, IfOk};
 ghost use Rattle.text_timeline.specs.Drawing.{column_at, with_one, cell_by, Notes, AreNoted};
@@ -10,16 +10,16 @@ use crate::extent::{Extent, clip_extent, end_of, marker_extent};
 use mt_sessionview::{ClipView, MarkerView};
 use std::alloc::{AllocError, Allocator};
 
-// What begins in a column.
+// The clips or markers that begin in a column.
 #[derive(Clone, Copy)]
 struct Column {
-    // How many, 2 for two and more.
+    // Their number; 2 for two or more.
     begun: u8,
-    // The first frame behind these.
+    // The first frame after them.
     reach: u64,
 }
 
-// What begins in a column, with one more that does.
+// A column in which one more begins.
 fn with_one(column: Column, extent: Extent) -> Column
     requires { column.begun ≤ 2 }
     ensures { result ≡ with_one column extent }
@@ -30,7 +30,7 @@ fn with_one(column: Column, extent: Extent) -> Column
     }
 }
 
-// Notes what begins in the column of its first frame.
+// Records a clip or marker in the column of its first frame.
 fn note(columns: &mut [Column], frames: u64, extent: Extent)
     requires some { 1 ≤ frames }
     requires few { (k : ℕ) → (column_at columns.old k).begun ≤ 2 }
@@ -43,7 +43,7 @@ fn note(columns: &mut [Column], frames: u64, extent: Extent)
     }
 }
 
-// Notes clips in columns in which nothing was noted.
+// Records clips in empty columns.
 fn note_clips(columns: &mut [Column], frames: u64, clips: &[ClipView])
     requires some { 1 ≤ frames }
     requires none { AreNoted frames (length columns.old) [] columns.old }
@@ -54,7 +54,7 @@ fn note_clips(columns: &mut [Column], frames: u64, clips: &[ClipView])
     }
 }
 
-// Notes markers in columns in which nothing was noted.
+// Records markers in empty columns.
 fn note_markers<A: Allocator>(columns: &mut [Column], frames: u64, markers: &[MarkerView<A>])
     requires some { 1 ≤ frames }
     requires none { AreNoted frames (length columns.old) [] columns.old }
@@ -65,7 +65,7 @@ fn note_markers<A: Allocator>(columns: &mut [Column], frames: u64, markers: &[Ma
     }
 }
 
-// So many columns in which nothing was noted.
+// This many empty columns.
 fn no_columns<A: Allocator>(alloc: A, width: u16) -> Result<Vec<Column, A>, AllocError>
     ensures { IfOk result (λ columns. (frames : ℕ) → AreNoted frames width [] columns.items) }
 {
@@ -76,8 +76,8 @@ fn no_columns<A: Allocator>(alloc: A, width: u16) -> Result<Vec<Column, A>, Allo
     }
 }
 
-// What is in a column, where it is known what begins in it and how far that reaches which begins
-// before it.
+// The contents of a column, from what begins in it, and from the first frame after everything that
+// begins before it.
 fn cell_by(column: Column, reach: u64, first: u64) -> Cell
     ensures { result ≡ cell_by column reach first }
 {
@@ -92,7 +92,7 @@ fn cell_by(column: Column, reach: u64, first: u64) -> Cell
     }
 }
 
-// What is in each column.
+// The contents of each column.
 fn cells_of<A: Allocator>(
     alloc: A,
     frames: u64,
@@ -113,7 +113,7 @@ fn cells_of<A: Allocator>(
     Ok(cells)
 }
 
-/// What of these clips is in each of so many columns.
+/// The contents of each of `width` columns, for these clips.
 pub(crate) fn clip_cells<A: Allocator + Clone>(
     alloc: &A,
     width: u16,
@@ -129,7 +129,7 @@ pub(crate) fn clip_cells<A: Allocator + Clone>(
     cells_of(alloc.clone()?, frames, &columns)
 }
 
-/// What of these markers is in each of so many columns.
+/// The contents of each of `width` columns, for these markers.
 pub(crate) fn marker_cells<A: Allocator + Clone, B: Allocator>(
     alloc: &A,
     width: u16,

@@ -1,4 +1,4 @@
-//! Where clips and markers lie, and where the last of them ends.
+//! The extents of clips and markers, and the end of the last of them.
 
 ghost use Rattle.std.specs.Prelude.{◌≡◌, ◌+◌, ◌<◌, ◌^◌, max};
 ghost use Rattle.std.specs.List.{flat_map};
@@ -8,16 +8,16 @@ ghost use Rattle.text_timeline.specs.Timeline.{marker_extents, end_of, span};
 use mt_sessionview::{ClipView, MarkerView, TrackView};
 use std::alloc::Allocator;
 
-/// Where something lies in a session.
+/// The frames of a clip or a marker in a session.
 #[derive(Clone, Copy)]
 pub(crate) struct Extent {
-    /// Its first frame.
+    /// The first frame.
     pub(crate) at: u32,
-    /// How many frames it has.
+    /// The number of frames.
     pub(crate) len: u32,
 }
 
-/// Where a clip lies.
+/// The extent of a clip.
 pub(crate) fn clip_extent(clip: &ClipView) -> Extent
     ensures { result ≡ clip_extent clip.now }
 {
@@ -27,7 +27,7 @@ pub(crate) fn clip_extent(clip: &ClipView) -> Extent
     }
 }
 
-/// Where a marker lies: a point at one frame.
+/// The extent of a marker; a point has one frame.
 pub(crate) fn marker_extent<A: Allocator>(marker: &MarkerView<A>) -> Extent
     ensures { result ≡ marker_extent marker.now }
 {
@@ -37,7 +37,7 @@ pub(crate) fn marker_extent<A: Allocator>(marker: &MarkerView<A>) -> Extent
     }
 }
 
-/// The first frame behind something.
+/// The first frame after an extent.
 pub(crate) fn end_of(extent: Extent) -> u64
     ensures value { result ≡ extent.at + extent.len }
     ensures small { result < 2 ^ 33 }
@@ -45,7 +45,7 @@ pub(crate) fn end_of(extent: Extent) -> u64
     u64::from(extent.at) + u64::from(extent.len)
 }
 
-// The first frame behind these clips.
+// The first frame after these clips.
 fn clips_end(clips: &[ClipView]) -> u64
     ensures value { result ≡ end_of (clip_extents clips.now) }
     ensures small { result < 2 ^ 33 }
@@ -57,7 +57,7 @@ fn clips_end(clips: &[ClipView]) -> u64
     end
 }
 
-// The first frame behind the clips of these tracks.
+// The first frame after the clips of these tracks.
 fn tracks_end<A: Allocator>(tracks: &[TrackView<A>]) -> u64
     ensures value { result ≡ end_of (flat_map (λ t. clip_extents t.clips) tracks.now) }
     ensures small { result < 2 ^ 33 }
@@ -69,7 +69,7 @@ fn tracks_end<A: Allocator>(tracks: &[TrackView<A>]) -> u64
     end
 }
 
-// The first frame behind these markers.
+// The first frame after these markers.
 fn markers_end<A: Allocator>(markers: &[MarkerView<A>]) -> u64
     ensures value { result ≡ end_of (marker_extents markers.now) }
     ensures small { result < 2 ^ 33 }
@@ -81,7 +81,7 @@ fn markers_end<A: Allocator>(markers: &[MarkerView<A>]) -> u64
     end
 }
 
-/// How many frames a session of these has.
+/// The number of frames of a session with these tracks and markers.
 pub(crate) fn span<A: Allocator>(tracks: &[TrackView<A>], markers: &[MarkerView<A>]) -> u64
     ensures value { result ≡ span tracks.now markers.now }
     ensures small { result < 2 ^ 33 }

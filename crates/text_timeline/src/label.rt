@@ -1,4 +1,4 @@
-//! What stands left of the columns.
+//! The labels to the left of the columns.
 
 ghost use Rattle.std.specs.Prelude.{◌≡◌, ◌≤◌, ◌++◌, length, OnOk};
 ghost use Rattle.std.specs.Fmt.{is_char_start, char_count};
@@ -7,7 +7,7 @@ ghost use Rattle.text_timeline.specs.Timeline.{longest, label_width, label_text}
 use mt_sessionview::TrackView;
 use std::alloc::{AllocError, Allocator};
 
-// How many characters of a label stand in its line.
+// The greatest number of characters of a label in its line.
 const WIDEST: usize = 20;
 
 // Whether a byte is the first of a character.
@@ -17,7 +17,7 @@ fn is_char_start(byte: u8) -> bool
     byte < 0x80 || byte >= 0xC0
 }
 
-// How many characters a text has.
+// The number of characters of a text.
 fn char_count(text: &[u8]) -> usize
     ensures value { result ≡ char_count text.now }
     ensures within { result ≤ length text.now }
@@ -31,7 +31,8 @@ fn char_count(text: &[u8]) -> usize
     count
 }
 
-// How many characters the longest title has, or the label of the markers' line.
+// The number of characters of the longest title, or of the label of the markers' line if that is
+// longer.
 fn longest<A: Allocator>(tracks: &[TrackView<A>]) -> usize
     ensures { result ≡ longest tracks.now }
 {
@@ -42,14 +43,14 @@ fn longest<A: Allocator>(tracks: &[TrackView<A>]) -> usize
     longest
 }
 
-/// How many characters stand left of the columns.
+/// The number of characters to the left of the columns.
 pub(crate) fn label_width<A: Allocator>(tracks: &[TrackView<A>]) -> usize
     ensures { result ≡ label_width tracks.now }
 {
     longest(tracks).min(WIDEST)
 }
 
-/// Writes the first 20 characters of a label, filled up with spaces to a width.
+/// Appends the first 20 characters of a label, padded with spaces to a width.
 pub(crate) fn append_label<A: Allocator + Clone, B: Allocator>(
     alloc: &A,
     text: &mut Vec<u8, B>,

@@ -7,16 +7,16 @@ use base_text::append_decimal;
 use base_times::append_time;
 use std::alloc::{AllocError, Allocator};
 
-/// In which ways the last line says how long a session and a column are.
+/// The units in which the last line gives the lengths of a session and of a column.
 #[derive(Clone, Copy)]
 pub enum SpanUnits {
-    /// In frames, and behind them as a time.
+    /// In frames, followed by a time.
     FramesAndTimes,
-    /// As a time alone.
+    /// Only as a time.
     Times,
 }
 
-/// Writes so many frames, and how long they last at a rate, or that alone.
+/// Appends a number of frames and its duration at a rate, or only the duration.
 pub(crate) fn append_length<A: Allocator>(
     text: &mut Vec<u8, A>,
     lengths: SpanUnits,

@@ -1,5 +1,5 @@
-//! A session drawn as text: where its markers stand, and where on each track clips lie, sound and
-//! fade.
+//! A session drawn as text: the positions of its markers, and for each track where clips are, sound
+//! and fade.
 //!
 //! ```rust
 //! use mt_op::{Body, Op, Title};
@@ -28,9 +28,10 @@
 //! }
 //! ```
 //!
-//! `specs/Timeline.antt` is the text. Each column has as many frames, and what is said of it is
-//! said of its first frame, but for `[`, `*` and `^`, which tell what begins anywhere in it. Of
-//! clips that lie over one another the one is drawn that sounds where the track is rendered.
+//! `specs/Timeline.antt` defines the text. All columns have the same number of frames. A mark
+//! describes the first frame of its column, except `[`, `*` and `^`, which mean that something
+//! begins anywhere in it. If clips overlap, the one is drawn that sounds when the track is
+//! rendered.
 #![tactic(auto)]
 
 mod cell;

@@ -15,7 +15,7 @@ use mt_op::Gain;
 use mt_sessionview::{MarkerView, TrackView};
 use std::alloc::{AllocError, Allocator};
 
-// Writes ` gain NUM/DEN`, where it is not 1/1.
+// Appends ` gain NUM/DEN`, if it is not 1/1.
 fn append_gain<A: Allocator>(text: &mut Vec<u8, A>, gain: Gain) -> Result<(), AllocError>
     ensures { OnOk result (text.new.items ≡ text.old.items ++ gain_text gain) }
 {
@@ -28,7 +28,7 @@ fn append_gain<A: Allocator>(text: &mut Vec<u8, A>, gain: Gain) -> Result<(), Al
     append_decimal(text, u64::from(gain.den()))
 }
 
-// Writes ` mute`, where it is muted.
+// Appends ` mute`, if `mute` is true.
 fn append_mute<A: Allocator>(text: &mut Vec<u8, A>, mute: bool) -> Result<(), AllocError>
     ensures { OnOk result (text.new.items ≡ text.old.items ++ mute_text mute) }
 {
@@ -39,7 +39,7 @@ fn append_mute<A: Allocator>(text: &mut Vec<u8, A>, mute: bool) -> Result<(), Al
     }
 }
 
-/// Writes the line of the markers.
+/// Appends the line of the markers.
 pub(crate) fn append_markers_line<A: Allocator + Clone, B: Allocator, C: Allocator>(
     alloc: &A,
     text: &mut Vec<u8, B>,
@@ -61,7 +61,7 @@ pub(crate) fn append_markers_line<A: Allocator + Clone, B: Allocator, C: Allocat
     Ok(())
 }
 
-// Writes the line of a track.
+// Appends the line of a track.
 fn append_track_line<A: Allocator + Clone, B: Allocator, C: Allocator>(
     alloc: &A,
     text: &mut Vec<u8, B>,
@@ -86,7 +86,7 @@ fn append_track_line<A: Allocator + Clone, B: Allocator, C: Allocator>(
     text.extend_from_slice(b"\n")
 }
 
-/// Writes the lines of tracks, in order.
+/// Appends the lines of tracks, in order.
 pub(crate) fn append_track_lines<A: Allocator + Clone, B: Allocator, C: Allocator>(
     alloc: &A,
     text: &mut Vec<u8, B>,
@@ -106,7 +106,7 @@ pub(crate) fn append_track_lines<A: Allocator + Clone, B: Allocator, C: Allocato
     Ok(())
 }
 
-/// Writes `span FRAMES TIME column FRAMES TIME`, or times alone, and a line feed.
+/// Appends `span FRAMES TIME column FRAMES TIME`, or the line with times only, and a line feed.
 pub(crate) fn append_span_line<A: Allocator>(
     text: &mut Vec<u8, A>,
     lengths: SpanUnits,

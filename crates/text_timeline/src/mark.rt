@@ -11,7 +11,7 @@ use mt_overlap::Segment;
 use mt_sessionview::ClipView;
 use std::alloc::{AllocError, Allocator};
 
-// The mark of a column of the markers' line.
+// The mark of a column in the markers' line.
 fn marker_mark(cell: Cell) -> u8
     ensures { result ≡ marker_mark cell }
 {
@@ -37,7 +37,7 @@ fn sound_mark(clip: &ClipView, frame: u64) -> u8
     }
 }
 
-// The mark of a column of a track's line, by the clip that is heard at its first frame.
+// The mark of a column in a track's line, given the clip that is heard at its first frame.
 fn cell_mark(cell: Cell, heard: Option<ClipView>, frame: u64) -> u8
     requires { frame < 2 ^ 62 }
     ensures { result ≡ cell_mark cell heard frame }
@@ -52,7 +52,7 @@ fn cell_mark(cell: Cell, heard: Option<ClipView>, frame: u64) -> u8
     }
 }
 
-/// Writes the marks of the markers' line.
+/// Appends the marks of the markers' line.
 pub(crate) fn append_marker_marks<A: Allocator>(
     text: &mut Vec<u8, A>,
     cells: &[Cell],
@@ -65,7 +65,7 @@ pub(crate) fn append_marker_marks<A: Allocator>(
     Ok(())
 }
 
-/// Writes the marks of a track's line.
+/// Appends the marks of a track's line.
 pub(crate) fn append_track_marks<A: Allocator>(
     text: &mut Vec<u8, A>,
     frames: u64,

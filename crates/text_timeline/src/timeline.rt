@@ -10,7 +10,7 @@ use crate::line::{append_markers_line, append_span_line, append_track_lines};
 use mt_sessionview::{MarkerView, Session, TrackView};
 use std::alloc::{AllocError, Allocator};
 
-// How many frames a column has.
+// The frames per column.
 fn column(width: u16, span: u64) -> u64
     requires width { 1 ≤ width }
     requires span { span ≤ 2 ^ 33 }
@@ -21,7 +21,7 @@ fn column(width: u16, span: u64) -> u64
     span.div_ceil(u64::from(width)).max(1)
 }
 
-// Writes all lines, in columns of so many frames.
+// Appends all lines, with this many frames per column.
 fn append_lines<A: Allocator + Clone, B: Allocator, C: Allocator>(
     alloc: &A,
     text: &mut Vec<u8, B>,
@@ -45,13 +45,13 @@ fn append_lines<A: Allocator + Clone, B: Allocator, C: Allocator>(
     append_span_line(text, lengths, rate, span, frames)
 }
 
-/// The timeline of a session in `width` columns, 1 and more: a line for the markers, one for each
-/// track, and a last line with the span and the frames of a column. The page on output describes
-/// it.
+/// The timeline of a session in `width` columns, 1 or more: a line for the markers, one for each
+/// track, and a last line with the lengths of the session and of a column. The page on output
+/// describes it.
 ///
-/// Times are at `rate` frames a second, 1 and more, rounded down. In a time of n log n for n clips
-/// and markers, and of `width` times the logarithm of its clips for each track. Fails where memory
-/// runs out.
+/// Times are at `rate` frames per second, 1 or more, rounded down. Takes O(n log n) time for n
+/// clips and markers, and for each track `width` times the logarithm of the number of its clips.
+/// Fails if memory runs out.
 pub fn timeline_text<A: Allocator + Clone, B: Allocator>(
     alloc: A,
     width: u16,

@@ -1,4 +1,4 @@
-//! Which clip of a track sounds at a frame.
+//! The clip of a track that sounds at a frame.
 
 ghost use Rattle.std.specs.Prelude.{◌≡◌, ℕ, ◌<◌, ◌≤◌, length, IfOk, IfSome, IfNone};
 ghost use Rattle.mt_stamp.specs.Sorting.{DifferBy};
@@ -13,7 +13,7 @@ use mt_render::spans_of;
 use mt_sessionview::ClipView;
 use std::alloc::{AllocError, Allocator};
 
-// The clip of an index.
+// The clip at an index.
 fn clip_at(clips: &[ClipView], index: usize) -> ClipView
     requires { index < length clips.now }
     ensures { result ≡ clip_at clips.now index }
@@ -36,7 +36,7 @@ pub(crate) fn tops_of<A: Allocator + Clone>(
     }
 }
 
-// The first segment that ends behind a frame, by halving.
+// The first segment that ends after a frame, by binary search.
 fn first_behind(segments: &[Segment], frame: u64) -> usize
     requires tidy { AreSortedDisjoint segments.now }
     ensures within { result ≤ length segments.now }
@@ -57,7 +57,7 @@ fn first_behind(segments: &[Segment], frame: u64) -> usize
     low
 }
 
-// The span whose segment holds a frame.
+// The span whose segment contains a frame.
 fn top_at(segments: &[Segment], frame: u64) -> Option<usize>
     requires tidy { AreSortedDisjoint segments.now }
     ensures some { IfSome result (λ w. SegmentIs segments.now frame w) }

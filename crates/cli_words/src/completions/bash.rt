@@ -37,7 +37,7 @@ const NO_COMMAND: &[u8] = b"'
             ;;
 ";
 
-// Behind this the scripts differ where a command has others below it.
+// After this text the scripts differ, if a command has subcommands.
 const FUNCTION: &[u8] = b"    esac
 }
 
@@ -95,7 +95,7 @@ pub(super) fn put_name<W: Write>(script: &mut BufferedLatch<'_, W>, command: &Wo
     put_names(script, &[command.name]);
 }
 
-// Puts the names that may stand at a place, if there are some.
+// Puts the possible names at a place, if there are any.
 fn put_place<W: Write>(script: &mut BufferedLatch<'_, W>, place: u64, names: &[&str]) {
     if names.is_empty() {
         return;
@@ -107,7 +107,7 @@ fn put_place<W: Write>(script: &mut BufferedLatch<'_, W>, place: u64, names: &[&
     script.put(b"' ;;\n");
 }
 
-// The same of each place of a command's words.
+// Puts the possible names at each place of a command's words.
 fn put_places<W: Write>(script: &mut BufferedLatch<'_, W>, words: &[Word]) {
     let mut place = 0;
     for word in words {
@@ -116,12 +116,12 @@ fn put_places<W: Write>(script: &mut BufferedLatch<'_, W>, words: &[Word]) {
     }
 }
 
-// Whether a word is one of some.
+// Whether one of these words has a list of possible names.
 fn has_names(words: &[Word]) -> bool {
     words.iter().any(|word| !word.names().is_empty())
 }
 
-// Puts the names of the commands below one, which may stand at its first place.
+// Puts the names of a command's subcommands, which may be at its first place.
 fn put_below<W: Write>(script: &mut BufferedLatch<'_, W>, below: &[Words]) {
     if below.is_empty() {
         return;
@@ -133,7 +133,7 @@ fn put_below<W: Write>(script: &mut BufferedLatch<'_, W>, below: &[Words]) {
     );
 }
 
-// Puts a command's name where a case begins.
+// Puts a command's name at the beginning of a case.
 fn put_case<W: Write>(script: &mut BufferedLatch<'_, W>, above: &str, command: &Words) {
     script.put(b"        ");
     if !above.is_empty() {
@@ -146,7 +146,7 @@ fn put_case<W: Write>(script: &mut BufferedLatch<'_, W>, above: &str, command: &
     script.put(b")\n");
 }
 
-/// Puts what stands of a command's words.
+/// Puts the case for a command's words.
 pub(super) fn put_words<W: Write>(script: &mut BufferedLatch<'_, W>, above: &str, command: &Words) {
     put_case(script, above, command);
     script.put(b"            options+='");
@@ -166,7 +166,7 @@ pub(super) fn put_words<W: Write>(script: &mut BufferedLatch<'_, W>, above: &str
     script.put(b"            ;;\n");
 }
 
-/// Puts the script.
+/// Puts the whole script.
 pub(super) fn put_all<W: Write>(script: &mut BufferedLatch<'_, W>, lists: &Lists) {
     script.put(HEAD);
     put_part(script, Part::Name(Shell::Bash), lists);

@@ -57,7 +57,7 @@ end
 
 ";
 
-/// Puts those options of a command that have a value.
+/// Puts the case for those options of a command that have a value.
 pub(super) fn put_valued<W: Write>(
     script: &mut BufferedLatch<'_, W>,
     above: &str,
@@ -79,7 +79,7 @@ pub(super) fn put_valued<W: Write>(
     script.put(b"'\n");
 }
 
-/// Puts the names of the commands below one, each between quotes.
+/// Puts the names of a command's subcommands, each between quotes.
 pub(super) fn put_names_below<W: Write>(script: &mut BufferedLatch<'_, W>, command: &Words) {
     for below in command.below {
         script.put(b" '");
@@ -88,14 +88,14 @@ pub(super) fn put_names_below<W: Write>(script: &mut BufferedLatch<'_, W>, comma
     }
 }
 
-// A command, by its name and that of the command above it.
+// A command, by its name and the name of the command above it.
 #[derive(Clone, Copy)]
 struct Named<'n> {
     above: &'n str,
     name: &'n str,
 }
 
-// Puts the head of a line for the words of a command, where no words of others may stand.
+// Puts the head of a line that completes the words of this command.
 fn put_at<W: Write>(script: &mut BufferedLatch<'_, W>, named: Named<'_>) {
     script.put(b"complete -c radio -n '__radio_at \"");
     script.put(named.above.as_bytes());
@@ -106,12 +106,12 @@ fn put_at<W: Write>(script: &mut BufferedLatch<'_, W>, named: Named<'_>) {
     script.put(b"\"");
 }
 
-// A command that has none above it; of none the words that stand before its name.
+// A command with no command above it; with an empty name, the place before any command's name.
 fn at_top(name: &str) -> Named<'_> {
     Named { above: "", name }
 }
 
-/// Puts a command's name, and what it does.
+/// Puts the line for a command's name, with its purpose.
 pub(super) fn put_name<W: Write>(script: &mut BufferedLatch<'_, W>, above: &str, command: &Words) {
     put_at(script, at_top(above));
     script.put(b"' -f -a ");
@@ -121,7 +121,7 @@ pub(super) fn put_name<W: Write>(script: &mut BufferedLatch<'_, W>, above: &str,
     script.put(b"\n");
 }
 
-// Puts an option of a command, and what it says.
+// Puts the line for an option of a command, with its help.
 fn put_option<W: Write>(script: &mut BufferedLatch<'_, W>, named: Named<'_>, word: &Word) {
     put_at(script, named);
     script.put(b"' -l ");
@@ -134,7 +134,7 @@ fn put_option<W: Write>(script: &mut BufferedLatch<'_, W>, named: Named<'_>, wor
     script.put(b"\n");
 }
 
-// Puts the names that may stand for a word at a place.
+// Puts the line for the possible names of a word at a place.
 fn put_place<W: Write>(
     script: &mut BufferedLatch<'_, W>,
     named: Named<'_>,
@@ -149,7 +149,7 @@ fn put_place<W: Write>(
     script.put(b"'\n");
 }
 
-// Puts a word of a command, which stands at this place if it is no option.
+// Puts the line for a word of a command, which is at this place if it is not an option.
 fn put_word<W: Write>(
     script: &mut BufferedLatch<'_, W>,
     named: Named<'_>,
@@ -163,7 +163,7 @@ fn put_word<W: Write>(
     }
 }
 
-// Puts these words of a command.
+// Puts the lines for these words of a command.
 fn put_each<W: Write>(script: &mut BufferedLatch<'_, W>, named: Named<'_>, words: &[Word]) {
     let mut place = 0;
     for word in words {
@@ -172,7 +172,7 @@ fn put_each<W: Write>(script: &mut BufferedLatch<'_, W>, named: Named<'_>, words
     }
 }
 
-/// Puts what stands of a command's words.
+/// Puts the lines for a command's words.
 pub(super) fn put_words<W: Write>(script: &mut BufferedLatch<'_, W>, above: &str, command: &Words) {
     let named = Named {
         above,
@@ -182,7 +182,7 @@ pub(super) fn put_words<W: Write>(script: &mut BufferedLatch<'_, W>, above: &str
     put_each(script, named, &[WHY, HELP]);
 }
 
-/// Puts the script.
+/// Puts the whole script.
 pub(super) fn put_all<W: Write>(script: &mut BufferedLatch<'_, W>, lists: &Lists) {
     script.put(HEAD);
     put_part(script, Part::Valued, lists);

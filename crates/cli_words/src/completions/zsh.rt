@@ -44,7 +44,7 @@ else
 fi
 ";
 
-/// Puts a command's name, and what it does.
+/// Puts a command's name, with its purpose.
 pub(super) fn put_name<W: Write>(script: &mut BufferedLatch<'_, W>, command: &Words) {
     script.put(b"        '");
     script.put(command.name.as_bytes());
@@ -53,7 +53,7 @@ pub(super) fn put_name<W: Write>(script: &mut BufferedLatch<'_, W>, command: &Wo
     script.put(b"'\n");
 }
 
-// Puts what may stand for the value of a word, or for the word.
+// Puts the possible values of a word or of an option.
 fn put_values<W: Write>(script: &mut BufferedLatch<'_, W>, word: &Word) {
     if word.names().is_empty() {
         script.put(b":_files'");
@@ -64,7 +64,7 @@ fn put_values<W: Write>(script: &mut BufferedLatch<'_, W>, word: &Word) {
     script.put(b")'");
 }
 
-// Puts an option, and what it says.
+// Puts an option, with its help.
 fn put_option<W: Write>(script: &mut BufferedLatch<'_, W>, word: &Word) {
     script.put(b"'--");
     script.put(word.name().as_bytes());
@@ -103,7 +103,7 @@ fn put_each<W: Write>(script: &mut BufferedLatch<'_, W>, words: &[Word]) {
     }
 }
 
-// Puts the case of a command that has none below it.
+// Puts the case for a command without subcommands.
 fn put_case<W: Write>(script: &mut BufferedLatch<'_, W>, command: &Words) {
     script.put(b"        ");
     script.put(command.name.as_bytes());
@@ -113,14 +113,14 @@ fn put_case<W: Write>(script: &mut BufferedLatch<'_, W>, command: &Words) {
     script.put(b" && ret=0\n            ;;\n");
 }
 
-// Puts the cases of commands.
+// Puts the cases for commands.
 fn put_cases<W: Write>(script: &mut BufferedLatch<'_, W>, commands: &[Words]) {
     for command in commands {
         put_case(script, command);
     }
 }
 
-/// Puts what stands of a command's words, and of those below it.
+/// Puts the case for a command's words, and for its subcommands.
 pub(super) fn put_words<W: Write>(script: &mut BufferedLatch<'_, W>, command: &Words) {
     if command.below.is_empty() {
         return put_case(script, command);
@@ -138,7 +138,7 @@ pub(super) fn put_words<W: Write>(script: &mut BufferedLatch<'_, W>, command: &W
     script.put(b"            esac\n            ;;\n");
 }
 
-/// Puts the script.
+/// Puts the whole script.
 pub(super) fn put_all<W: Write>(script: &mut BufferedLatch<'_, W>, lists: &Lists) {
     script.put(HEAD);
     put_part(script, Part::Name(Shell::Zsh), lists);

@@ -39,7 +39,7 @@ pub(crate) const WORDS: Words = Words {
     below: &[],
 };
 
-// What these words ask for.
+// The kind of comparison that these words request.
 fn asked_for(words: &ArgMatches<'_>) -> DiffKind {
     if words.get_flag("fields") {
         return DiffKind::Fields;

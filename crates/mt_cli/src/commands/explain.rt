@@ -40,7 +40,7 @@ pub(crate) fn run<W: Write>(
     }
 }
 
-// What is told of a number that is no refusal, as the parser tells of a mistake.
+// The message for a number that is not a refusal's, in the form of the parser's errors.
 fn unknown(alloc: Global, number: u8) -> Exit {
     match format!(in alloc;
         "error: no refusal has the number {number}\n\nUsage: radio explain [N]\n\nFor more information, try '--help'.\n"
@@ -64,7 +64,7 @@ fn put_all<W: Write>(output: &mut Latch<W>) -> Result<(), CliFault> {
     lines.flush().map_err(|_| CliFault::Write)
 }
 
-// Puts a refusal's line, and what can be done about it.
+// Puts a refusal's line, and its advice.
 fn put_whole<W: Write>(output: &mut Latch<W>, refusal: &Refusal) -> Result<(), CliFault> {
     let mut lines = BufferedLatch::new(output);
     put_line(&mut lines, refusal);

@@ -44,7 +44,7 @@ pub(crate) const WORDS: Words = Words {
     below: &[],
 };
 
-// What these words look for. The file of a recording is read before the log.
+// The query of these words. The file of a recording is read before the log.
 fn wanted<'w, F: Files + AllocGlobal>(
     rt: &F,
     words: &ArgMatches<'w>,
@@ -64,7 +64,7 @@ fn wanted<'w, F: Files + AllocGlobal>(
     }
 }
 
-// Finds what these words look for.
+// Finds the items that match the query of these words.
 fn find<F: Files + AllocGlobal, W: Write>(
     rt: &F,
     words: &ArgMatches<'_>,
@@ -81,8 +81,7 @@ fn find<F: Files + AllocGlobal, W: Write>(
     )
 }
 
-// What is told where a file is named, and no clips are looked for, as the parser tells of a
-// mistake.
+// The message if a file is named but no clips are searched for, in the form of the parser's errors.
 fn no_clips(alloc: Global) -> Exit {
     let text =
         "error: the argument '--wave' can only be used with KIND 'clip'\n\nUsage: radio find [OPTIONS] <LOG> <KIND> <WHAT>\n\nFor more information, try '--help'.\n";

@@ -16,7 +16,7 @@ pub(crate) const WORDS: Words = Words {
     below: &[],
 };
 
-/// Refused as `Read` where the system gives no random bytes.
+/// Error: `Read` (45) if the system gives no random bytes.
 pub(crate) fn run<F: RandomSource + AllocGlobal, W: Write>(
     rt: &F,
     output: &mut Latch<W>,

@@ -30,7 +30,7 @@ pub(crate) const WORDS: Words = Words {
     below: &[],
 };
 
-// The unit that these words ask for.
+// The unit that these words request.
 fn unit_of(words: &ArgMatches<'_>) -> InfoUnit {
     if !words.get_flag("time") {
         return InfoUnit::Frames;

@@ -52,8 +52,8 @@ fn is_track(text: &str) -> bool {
     }
 }
 
-// Whether a text is the number of a line, as a script writes it: from 1 on, of 32 bits, digits
-// alone with no zero in front.
+// Whether a text is the number of a line, as a script writes it: from 1 on, of 32 bits, only
+// digits, with no leading zero.
 fn is_line(text: &str) -> bool {
     let begins = text.starts_with(|first: char| matches!(first, '1'..='9'));
     begins && text.parse::<u32>().is_ok()

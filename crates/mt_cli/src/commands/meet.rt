@@ -35,7 +35,7 @@ pub(crate) const WORDS: Words = Words {
     below: &[],
 };
 
-// A stream to an address, which is waited for no longer than is said.
+// A stream to an address; connecting to each of its addresses waits at most this long.
 fn connected<N: Net>(
     net: &N,
     address: &str,

@@ -35,8 +35,7 @@ pub(crate) const WORDS: Words = Words {
     below: &[],
 };
 
-// Pulls what the files of these names have into the first of them, which is not written in a dry
-// run.
+// Pulls the operations of these files into the first of them, which is not written in a dry run.
 fn pulled<F: Files<File = File> + AllocGlobal, W: Write>(
     rt: &F,
     words: &ArgMatches<'_>,

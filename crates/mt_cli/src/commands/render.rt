@@ -42,7 +42,7 @@ pub(crate) const WORDS: Words = Words {
     below: &[],
 };
 
-// The options of a render, which a check has too.
+// The options of `render`, which `check` has too.
 
 pub(super) const RATE: Word = Word::Count {
     name: "rate",
@@ -107,7 +107,7 @@ fn given<'w>(words: &ArgMatches<'w>, name: &str) -> &'w str {
     words.get_str(name).unwrap_or("")
 }
 
-/// The head of these words.
+/// The head that these words give.
 pub(super) fn head_of<'w>(words: &ArgMatches<'w>) -> Result<Head<'w>, CliFault> {
     Head::new(
         given(words, "description"),
@@ -120,7 +120,7 @@ pub(super) fn head_of<'w>(words: &ArgMatches<'w>) -> Result<Head<'w>, CliFault> 
     .map_err(CliFault::Head)
 }
 
-/// The format of these words.
+/// The format that these words give.
 pub(super) fn format_of(words: &ArgMatches<'_>) -> Result<Format, CliFault> {
     Format::new(
         words.get_one::<u32>("rate").unwrap_or(0),

@@ -48,7 +48,7 @@ pub(crate) const WORDS: Words = Words {
     below: &[],
 };
 
-// A listener at an address, where one is waited for no longer than is said.
+// A listener at an address, which waits at most this long for a caller.
 fn listening<N: Net<Listener = TcpListener, Stream = TcpStream>>(
     net: &N,
     address: &str,
@@ -58,7 +58,7 @@ fn listening<N: Net<Listener = TcpListener, Stream = TcpStream>>(
         return Err(CliFault::Net);
     };
     if wait.is_some() {
-        // the option of the socket is that of its handles, of which std lets a stream's set it
+        // all handles of a socket share its options; std sets this one only through a stream
         let Ok(handle) = listener.try_clone() else {
             return Err(CliFault::Net);
         };
@@ -78,7 +78,7 @@ fn accepted(listener: &TcpListener, wait: Option<Duration>) -> Result<TcpStream,
     }
 }
 
-// What a command on one log is called with, and at what it listens.
+// The words of the command, and the listener.
 #[derive(Clone, Copy)]
 struct Serving<'s, 'w> {
     words: &'s ArgMatches<'w>,
@@ -86,7 +86,7 @@ struct Serving<'s, 'w> {
     wait: Option<Duration>,
 }
 
-// Serves the next caller: LOG is read as it is then, and OUT written.
+// Serves the next caller: reads LOG as it is then, and writes OUT.
 fn serve_one<F: Files<File = File> + AllocGlobal>(
     rt: &F,
     serving: &Serving<'_, '_>,
@@ -105,8 +105,8 @@ fn serve_one<F: Files<File = File> + AllocGlobal>(
     )
 }
 
-// Whether a meeting was refused by what the caller said, or since LOG was changed while it was
-// held: then the next caller is waited for.
+// Whether a fault concerns this meeting only: what the caller sent, or a change of LOG during the
+// meeting. The program then waits for the next caller.
 fn is_of_one_meeting(fault: &CliFault) -> bool {
     match fault {
         CliFault::Sync(_) | CliFault::Part(PartFault::NotNamed) => true,
@@ -114,7 +114,7 @@ fn is_of_one_meeting(fault: &CliFault) -> bool {
     }
 }
 
-// Tells why a meeting was refused, where that is asked for.
+// Prints why a meeting failed, if causes are requested.
 #[tactic(auto, using(crate::proofs::Telling::no_cause))]
 fn tell_meeting<F: Files + AllocGlobal, E: Write>(
     rt: &F,
@@ -133,7 +133,7 @@ fn tell_meeting<F: Files + AllocGlobal, E: Write>(
     }
 }
 
-// Serves so many meetings that come to their end, one after another; with 0 until it is
+// Serves `count` meetings that reach their end, one after another; with 0 it serves until it is
 // interrupted.
 #[tactic(auto, using(crate::proofs::Telling::no_cause, crate::proofs::Telling::more_causes))]
 fn serve_all<F: Files<File = File> + AllocGlobal, E: Write>(

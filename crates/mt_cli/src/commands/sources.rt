@@ -42,7 +42,7 @@ pub(crate) const WORDS: Words = Words {
     below: &[],
 };
 
-// Which of the texts these words ask for.
+// The listing that these words request.
 fn asked_for(words: &ArgMatches<'_>) -> Listing {
     if words.get_flag("missing") {
         return Listing::Missing;

@@ -52,14 +52,14 @@ pub(crate) const WORDS: Words = Words {
     below: &[],
 };
 
-// How many columns there are.
+// The number of columns.
 fn width_of(words: &ArgMatches<'_>) -> u16
     ensures { 1 ≤ result }
 {
     words.get_one::<u16>("width").unwrap_or(60).max(1)
 }
 
-// Whether it is drawn as text or as a picture.
+// The drawing that these words request: text or a picture.
 fn drawing_of(words: &ArgMatches<'_>) -> Drawing
     ensures { 1 ≤ columns_of result }
 {
@@ -73,7 +73,7 @@ fn drawing_of(words: &ArgMatches<'_>) -> Drawing
     }
 }
 
-// In which ways the last line says how long the session is.
+// The units in which the last line gives the length of the session.
 fn lengths_of(words: &ArgMatches<'_>) -> SpanUnits {
     if words.get_flag("time") {
         SpanUnits::Times
@@ -82,28 +82,28 @@ fn lengths_of(words: &ArgMatches<'_>) -> SpanUnits {
     }
 }
 
-// How many frames a second has.
+// The frames per second.
 fn rate_of(words: &ArgMatches<'_>) -> u32
     ensures { 1 ≤ result }
 {
     words.get_one::<u32>("rate").unwrap_or(48_000).max(1)
 }
 
-// Reads the recordings that these words name, behind so many other inputs.
+// Reads the recordings that these words name. `others` is the number of inputs before them.
 fn recordings_of<F: Files + AllocGlobal>(
     rt: &F,
     others: usize,
     words: &ArgMatches<'_>,
 ) -> Result<Vec<HashedFile>, CliFault> {
     let mut files = open_all(rt, others, words.get_strs("source").unwrap_or(&[]))?;
-    // for the proof: that all inputs can be counted
+    // for the proof: all inputs can be counted
     if others > usize::MAX - files.len() {
         return Err(CliFault::Memory);
     }
     read_all_sources(rt.alloc(), others, &mut files)
 }
 
-// Draws the session of standard input.
+// Draws the session of the log on standard input.
 fn draw_input<F: Files + AllocGlobal, R: Read, W: Write>(
     rt: &F,
     words: &ArgMatches<'_>,
