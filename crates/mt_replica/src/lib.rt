@@ -13,11 +13,11 @@
 //! fn takes_an_edit_of_another(rt: HostRuntime) -> Result<(), Fail> {
 //!     let mut desk = Editor::from_log(rt.alloc(), Replica(10), Log::new(rt.alloc()))?;
 //!     let mut home = Editor::from_log(rt.alloc(), Replica(11), Log::new(rt.alloc()))?;
-//!     // each edit makes an operation, for the others
+//!     // each edit makes an operation, to send to the others
 //!     let added =
 //!         desk.edit(&Change::AddMarker { at: 480, title: Title::new(rt.alloc(), "News")? })?;
 //!     let moved = desk.edit(&Change::MoveMarker { marker: added.stamp(), at: 960 })?;
-//!     // in whatever order they come: what lacks something waits
+//!     // they may come in any order: an operation that lacks another one waits
 //!     assert!(rt; home.take(moved)? == Taken::Held);
 //!     let Taken::Applied(ready) = home.take(added)? else {
 //!         return Err(Fail::from("it is ready"));
