@@ -190,8 +190,8 @@ fn states_after<const N: usize>(
     states
 }
 
-// Hashes, of the messages at these places, as many blocks as each of them has left. A message whose
-// place occurs twice is written twice, with the same value.
+// Hashes n blocks of each of the messages at these places, where n is the least number that one of
+// them has left. A message whose place occurs twice is written twice, with the same value.
 fn turn<const N: usize>(lanes: &mut [Lane<'_>], places: &[usize; N])
     requires few { N ≤ 8 }
     requires fours { N % 4 ≡ 0 }

@@ -28,11 +28,11 @@
 //!
 //! Messages may be of any lengths and any number. Eight are hashed together as long as there are
 //! eight, then four, and a message that ends makes room for the next. Three are hashed together
-//! too, and the rest of the last one or two messages is hashed alone, as in `sha256_of`: there the
-//! schedule of the words is in vectors. In `rounds` the compiler vectorises the loop over the
-//! lanes, whose body is plain integer code: four lanes at a time or, on a processor with longer
-//! registers, eight. The layout in memory fits: states and words are in rows, each of which has a
-//! word for each lane (`column`, `transposing`).
+//! too. The rest of the last one or two messages is hashed one message at a time, as in
+//! `sha256_of`, with the schedule of the words in vectors. In `rounds` the compiler vectorises the
+//! loop over the lanes, whose body is plain integer code: four lanes at a time or, on a processor
+//! with longer registers, eight. The layout in memory is made for it: states and words are in rows,
+//! each of which has a word for each lane (`column`, `transposing`).
 #![tactic(auto)]
 
 mod column;

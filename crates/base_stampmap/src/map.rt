@@ -64,7 +64,7 @@ impl<V: Drop, A: Allocator> StampMap<V, A> {
         })
     }
 
-    /// Whether the entry at an index has a stamp.
+    /// Whether the entry at an index has this stamp.
     pub fn stands_at(&self, index: usize, stamp: Stamp) -> bool
         ensures { result ≡ is_key (slice_get (keys_of self.now) index) stamp }
     {

@@ -13,8 +13,7 @@ pub struct Fraction {
     pub den: u16,
 }
 
-// The distance of a fraction from an amplitude, as a number of units divided by the fraction's
-// divisor.
+// The distance of a fraction from an amplitude, times the fraction's divisor, in units of 10^-15.
 fn off(amp: u128, num: u16, den: u16) -> u128
     requires { amp ≤ 65535 * unit }
     ensures result { result ≡ off amp num den }

@@ -16,8 +16,8 @@ use Rattle.mt_replica.specs.EditorValue.{with_op, is_ready_in}
 -- An operation is a replica's next one of a log: it is the replica's, its number is greater than
 -- every number of the replica in the log, its clock is greater than every clock, and the log has
 -- nothing under its dot. It names older operations, and ready operations of the log meet its needs.
--- With it the log has it ready and nothing else more: any sum over the ready ones grows by exactly
--- its own value.
+-- In the log with it, exactly the operations that were ready before and this one are ready: any sum
+-- over the ready ones grows by exactly its own value.
 pub record IsNext (log : LogMap) (name : Replica) (o : Op) : Type 0 where
   pub own : o.stamp.replica ≡ name
   pub next : AllByRecursion (λ x. x.stamp.replica ≡ name → x.stamp.seq < o.stamp.seq)

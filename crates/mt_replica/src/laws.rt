@@ -13,8 +13,9 @@ use std::alloc::Allocator;
 /// Let each operation of a log be stored under its own dot and name older ones. Then the operation
 /// that an edit makes of the log is its author's next one: its number is greater than every number
 /// of the author in the log, its clock is greater than every clock, held operations included, and
-/// the log has nothing under its dot. It names older operations, ready operations of the log meet
-/// its needs, and the log with it has it ready and nothing else more.
+/// the log has nothing under its dot. It names older operations, and ready operations of the log
+/// meet its needs. In the log with it, exactly the operations that were ready before and this one
+/// are ready.
 pub fn made_operations()
     ensures { MadeIsNext }
 {}

@@ -1,6 +1,6 @@
 //! An editor of a session: a name, a log, and the session of the log's operations.
 //!
-//! An editor takes operations of other editors, in any order, and makes operations of its own from
+//! An editor takes operations of other editors, in any order, and makes its own operations from
 //! changes:
 //!
 //! ```rust

@@ -41,10 +41,10 @@
 //!
 //! All or none: at the first line that has none of the fourteen forms (`BadLine`), or whose change
 //! the editor refuses (`Refused`), the editor is unchanged, and the fault gives the line, counted
-//! from 1. `specs/Forms.antt` and `specs/Words.antt` define the grammar, `specs/Lines.antt` and
-//! base_text how a text is cut into lines, and `specs/Script.antt` the operations made. The text of
-//! an act in a listing of a log is such a line, except for a `remove`, whose text lists the tags
-//! (`laws::acts_read_back`).
+//! from 1. `specs/Forms.antt` and `specs/Words.antt` define the grammar, `specs/Lines.antt` the
+//! lines that request nothing, and `specs/Script.antt` the operations made; base_text defines how a
+//! text is cut into lines. The text of an act in a listing of a log is such a line, except for a
+//! `remove`, whose text lists the tags (`laws::acts_read_back`).
 //!
 //! `run_draft(alloc, draft, text)?` makes the same changes in a draft, and returns the draft with
 //! their number; at a refusal the draft is dropped.

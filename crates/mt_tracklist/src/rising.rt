@@ -21,7 +21,7 @@ pub struct PlaceAfter {
     pub after: Option<Stamp>,
 }
 
-// Whether the place at an index has a stamp.
+// Whether the place at an index has this stamp.
 fn is_at(places: &[PlaceAfter], index: usize, stamp: Stamp) -> bool
     requires rising { RisesStrictly stamp_cmp (stamps_of (given_tree places.now)) }
     requires tree { IsTree (given_tree places.now) }

@@ -50,8 +50,8 @@ fn append_kept<A: Allocator>(text: &mut Vec<u8, A>, bytes: &[u8]) -> Result<(), 
 }
 
 /// Appends bytes as text that is allowed in a title, except for its length: UTF-8 characters are
-/// kept, `\` too, and each other byte, each byte below 0x20 and 0x7F is written as `\x` and two hex
-/// digits. If an allocation fails, an unspecified part of it is appended.
+/// kept, `\` too, but each byte of no character, each byte below 0x20, and each 0x7F is written as
+/// `\x` and two hex digits. If an allocation fails, an unspecified part of it is appended.
 pub fn append_shown<A: Allocator>(text: &mut Vec<u8, A>, bytes: &[u8]) -> Result<(), AllocError>
     ensures { OnOk result (text.new.items ≡ text.old.items ++ shown bytes.now) }
 {

@@ -65,7 +65,7 @@ abbrev pub reel : Digest → List ℕ
 reel d = take 8 (digest_text d)
 
 -- The time codes of the source and of the record, each from the first frame to the one after the
--- last. The source has as many frames as the record.
+-- last. The source has the same number of frames as the record.
 abbrev pub times_text : FrameRate → ℕ → Event → List ℕ
 times_text fr rate e =
     let from = video_frame fr rate e.offset in

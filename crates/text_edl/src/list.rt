@@ -88,8 +88,8 @@ fn listed<A: Allocator + Clone>(
 
 /// The audible parts of a track as an edit decision list in CMX 3600 format: `TITLE:`, `FCM:`, an
 /// empty line, and for each segment in which one of its clips sounds `NNN  REEL     A     C` and
-/// the time codes of source and record, each from the first frame to the one after the last; `*
-/// DIGEST:`; `* FROM CLIP NAME:` if `names` has the file's name; and `* ROUNDED:` with the
+/// the time codes of source and record, each from the first frame to the one after the last;
+/// `* DIGEST:`; `* FROM CLIP NAME:` if `names` has the file's name; and `* ROUNDED:` with the
 /// positions in frames at the rate, at least 1, if one is not exactly at a video frame. REEL is the
 /// first eight digits of the recording's digest. A time code is that of the nearest video frame, of
 /// two equally near ones the later. A muted track has no event.

@@ -58,12 +58,12 @@ fn append_label<A: Allocator>(
 
 /// The script that adds a marker for each label of an Audacity label track, at a rate of at least
 /// 1: `add-marker AT TITLE`, and `marker-length $LINE LEN` if the label's length is not 0. Its
-/// first line has the number `line` in the whole script. A line of the track is `START TAB END TAB
-/// TITLE` or `START TAB END`, ended by LF or CR LF; blank lines and those that begin with `\` are
-/// skipped, but counted. Fails at the first line at fault: with `BadLine` (41) and its number, from
-/// 1 on, if `frame_of_seconds` cannot read START or END, if END is before START, or if TITLE is no
-/// title; with `TooManyLines` (35) if its first line has a number over 4,294,967,295. Fails with
-/// `Memory` (0) when an allocation fails.
+/// first line has the number `line` in the whole script. A line of the track is
+/// `START TAB END TAB TITLE` or `START TAB END`, ended by LF or CR LF; blank lines and those that
+/// begin with `\` are skipped, but counted. Fails at the first line at fault: with `BadLine` (41)
+/// and its number, from 1 on, if `frame_of_seconds` cannot read START or END, END is before START,
+/// or TITLE is no title; with `TooManyLines` (35) if its first line has a number over
+/// 4,294,967,295. Fails with `Memory` (0) when an allocation fails.
 pub fn label_script<A: Allocator>(
     alloc: A,
     rate: u32,
