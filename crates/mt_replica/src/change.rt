@@ -30,7 +30,7 @@ pub enum Change<A: Allocator = Global> {
         offset: u32,
         len: u32,
     },
-    /// Moves a clip to frame `at` of the session, on a track, which may be its present one.
+    /// Moves a clip to frame `at` of the session, on a track, which may be its current one.
     MoveClip {
         clip: Stamp,
         track: Stamp,

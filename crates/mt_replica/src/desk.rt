@@ -20,18 +20,18 @@ use mt_stamp::Replica;
 use std::alloc::{AllocError, Allocator, Global};
 use std::marker::{Model, PhantomData};
 
-/// Whether a desk has the session of its log.
+/// Whether an `EditorCore` has the session of its log.
 pub trait Sessions {
     ghost SHOWN: { Bool };
 
-    /// Whether a desk has the session of its log.
+    /// Whether the `EditorCore` has the session of its log.
     const SHOWN: bool;
 }
 
-/// The desk has the session of its log.
+/// With the session of the log: an `Editor`.
 pub struct WithSession;
 
-/// The desk has no session.
+/// Without the session of the log: a `Draft`.
 pub struct WithoutSession;
 
 impl Sessions for WithSession {
@@ -163,7 +163,7 @@ impl<A: Allocator + Clone, S: Sessions> EditorCore<A, S> {
     ghost use Rattle.mt_replica.specs.EditorValue.{after_edit, TakeGives, after_take};
     ghost use Rattle.mt_replica.specs.State.{IsMadeOf, IsNewTo};
 
-    // A desk that has taken a log's operations. `AllocError` when an allocation fails.
+    // An `EditorCore` that has taken a log's operations. `AllocError` when an allocation fails.
     fn of_log(alloc: A, name: Replica, log: Log<A>) -> Result<Self, AllocError>
         ensures ok { IfOk result (λ desk. desk ≡ record { name = name; log = Some log; joins = 0 })
             }
@@ -182,8 +182,8 @@ impl<A: Allocator + Clone, S: Sessions> EditorCore<A, S> {
         })
     }
 
-    // A desk of the same name with a copy of the log. Fails with `Failed` (20) if this one has
-    // failed, and with `Memory` (0).
+    // An `EditorCore` of the same name with a copy of the log. Fails with `Failed` (20) if this one
+    // has failed, and with `Memory` (0).
     fn copy<T: Sessions>(&self) -> Result<EditorCore<A, T>, EditorFault>
         ensures ok { IfOk result (λ copy. copy ≡ copied self.now) }
         ensures failed { IsErrOf result EditorFault.Failed ↔ (self.now.log ≡ None) }
@@ -203,7 +203,7 @@ impl<A: Allocator + Clone, S: Sessions> EditorCore<A, S> {
     pub fn name(&self) -> Replica
         ensures { result ≡ self.now.name }
     {
-        // for the proof: that the name and the count are those of the desk as a whole
+        // for the proof: that the name and the count are those of the `EditorCore` as a whole
         let (_state, name) = (&self.state, self.name);
         name
     }
@@ -216,7 +216,7 @@ impl<A: Allocator + Clone, S: Sessions> EditorCore<A, S> {
     pub fn joins(&self) -> u64
         ensures { result ≡ self.now.joins }
     {
-        // for the proof: that the name and the count are those of the desk as a whole
+        // for the proof: that the name and the count are those of the `EditorCore` as a whole
         let (_state, joins) = (&self.state, self.joins);
         joins
     }

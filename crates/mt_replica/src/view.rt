@@ -54,7 +54,7 @@ impl<A: Allocator> EditorState<A> {
     pub(crate) fn items(&self) -> &ItemStates<A>
         ensures { result.now ≡ self.now.ops }
     {
-        // for the proof: that the items are those of the view as a whole
+        // for the proof: that the items are those of the `EditorState` as a whole
         let _ = &self.shown;
         &self.items
     }

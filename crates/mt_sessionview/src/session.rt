@@ -19,7 +19,7 @@ pub struct ClipView {
     pub offset: u32,
     /// The number of frames that it plays, at least 1.
     pub len: u32,
-    /// The factor of its samples.
+    /// The factor by which its samples are multiplied.
     pub gain: Gain,
     /// Whether it is muted.
     pub mute: bool,
@@ -55,7 +55,7 @@ pub struct TrackView<A: Allocator = Global> {
     pub track: Stamp,
     /// The title from its last writer, at most 255 bytes.
     pub title: Title<A>,
-    /// The factor of the samples of its clips, in addition to their own gain.
+    /// The factor by which the samples of its clips are multiplied, in addition to their own gain.
     pub gain: Gain,
     /// Whether it is muted.
     pub mute: bool,

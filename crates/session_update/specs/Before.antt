@@ -121,7 +121,7 @@ abbrev pub tracks_without : Option PlacedClip → List Track → List Track
 tracks_without None tracks = tracks
 tracks_without (Some found) tracks = map (clip_off found) tracks
 
--- A session is unchanged, or lacks the former entry of an item: the marker, the clip, or the track.
+-- A session is unchanged, or lacks the old entry of an item: the marker, the clip, or the track.
 -- The rest is unchanged.
 abbrev pub LacksAtMost : Stamp → Located → Session → Session → Type 0
 LacksAtMost item located old new =

@@ -48,12 +48,12 @@ module _ (ops : List Op) where
   track_order a b = tree_cmp (places_in ops) (track_place_in ops a.track)
       (track_place_in ops b.track)
 
-  -- markers with the former entry of one item removed, and its present one inserted
+  -- markers with the old entry of one item removed, and its new one inserted
   abbrev pub markers_updated : Stamp → List Marker → List Marker
   markers_updated item markers = put marker_cmp (marker_entry item)
       (without (λ (m : Marker). m.marker) item markers)
 
-  -- the clips of a track with the former entry of one item removed, and its present one inserted
+  -- the clips of a track with the old entry of one item removed, and its new one inserted
   abbrev pub clips_updated : Stamp → Stamp → List Clip → List Clip
   clips_updated item track clips = put clip_cmp (clip_on ops track item)
       (without (λ (c : Clip). c.clip) item clips)
@@ -63,8 +63,8 @@ module _ (ops : List Op) where
   track_updated item t = record { track = t.track; title = t.title; gain = t.gain; mute = t.mute;
       clips = clips_updated item t.track t.clips }
 
-  -- tracks with the former entry of one item removed, the clips of every other track updated, and
-  -- the item's present entry inserted
+  -- tracks with the old entry of one item removed, the clips of every other track updated, and the
+  -- item's new entry inserted
   abbrev pub tracks_updated : Stamp → List Track → List Track
   tracks_updated item tracks = put track_order (track_entry item)
       (map (track_updated item) (without (λ (t : Track). t.track) item tracks))

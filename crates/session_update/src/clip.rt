@@ -170,11 +170,11 @@ fn put_in<A: Allocator>(
     put_on(session, found)
 }
 
-/// Updates the clips of a session after one more operation, whose item is no track: removes the
-/// item's clip from its former track (`placed_clip` of the operations before), if that is shown,
-/// and inserts it into its present one, if that is shown. A clip with the same track, position and
-/// place operation is rewritten where it is: nothing moves, and no memory is allocated. The search
-/// is linear in the tracks, and takes log n comparisons for n clips and items; otherwise the later
+/// Updates the clips of a session after one more operation was applied, whose item is no track:
+/// removes the item's clip from its old track (`placed_clip` of the operations before), and inserts
+/// it into its new one, each if that track is shown. A clip with the same track, position and place
+/// operation is rewritten where it is: nothing moves, and no memory is allocated. The search is
+/// linear in the tracks, and takes log n comparisons for n clips and items; otherwise the later
 /// clips move. Fails only with `AllocError`, when an allocation fails: the session then lacks the
 /// clip, if it was there, and is otherwise unchanged.
 pub fn update_clips<A: Allocator>(

@@ -11,8 +11,8 @@ ghost use Rattle.session_update.specs.Updating.{ItemsAreOfAKind, MarkersAreUpdat
 ghost use Rattle.session_update.specs.Updating.{OtherTracksStay, PlacesAreUpdated};
 ghost use Rattle.session_update.specs.Updating.{PlacesStayInOrder, TracksAreUpdated};
 
-/// The tracks and markers of operations that were applied, in any order, are those of the session
-/// of every set in which these are the ready ones.
+/// Operations that were applied, in any order, show the session of every set in which these are the
+/// ready ones.
 pub fn applied_session()
     ensures { AppliedAreTheSession }
 {}

@@ -3,7 +3,7 @@
 //!
 //! Every operation adds or names one item, its *subject*. When it is applied after others, their
 //! session changes only at this item: among the markers, among the clips of each track and among
-//! the tracks, the entry of the subject is removed, and its present entry, if any, is inserted in
+//! the tracks, the old entry of the subject is removed, and its new entry, if any, is inserted in
 //! order. All other entries keep their values and their order.
 //!
 //! ```text
@@ -13,9 +13,9 @@
 //! removed and inserted     960 "Weather", 2.a.2    1200 "News", 1.a.1
 //! ```
 //!
-//! If it were a Remove of all tags of 1.a.1, the subject would have no entry afterwards, and
-//! nothing would be inserted. If another replica had moved the marker before with a greater stamp,
-//! the entry would be the same as before, inserted where it was.
+//! If it were a Remove of all tags of 1.a.1, the subject would have no new entry, and nothing would
+//! be inserted. If another replica had moved the marker before with a greater stamp, the new entry
+//! would equal the old one, and be inserted where that one was.
 //!
 //! - [`laws::updated_markers`], [`laws::updated_clips`] and [`laws::updated_tracks`] state this of
 //!   the three lists, and [`laws::shown_entries`] what an entry is. A clip that moves leaves one
@@ -27,8 +27,8 @@
 //!   places in order. [`laws::updated_places`] states how that list is updated, and
 //!   [`laws::places_stay`] that adding a place moves no other.
 //! - [`laws::kinds_apart`] and [`laws::other_tracks`] state what stays the same and need not be
-//!   read. An operation about a marker leaves all tracks as they are, and one about a clip changes
-//!   at most its former and its present track.
+//!   read. An operation about a marker leaves all tracks as they are, and one about a clip leaves
+//!   all tracks except the one that the clip was on and the one that it is on.
 //! - [`laws::applied_session`] states that all this holds for the session of the set.
 //!
 //! Operations are applied after those that they need, and otherwise in any order.
@@ -36,7 +36,7 @@
 //! The calls that update a session do what the laws state. Before an operation is applied,
 //! [`located`] returns where its item (`Op::item`) is, and [`add_place`] inserts the place that it
 //! gives a track, if it gives one, into the list of all places. After it is applied, [`update`]
-//! removes the item's former entry and inserts its present one. A marker or a clip whose place is
+//! removes the old entry of the item and inserts the new one. A marker or a clip whose place is
 //! unchanged is rewritten there, and nothing moves. The session is then the one of all applied
 //! operations:
 //!

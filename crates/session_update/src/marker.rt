@@ -107,11 +107,11 @@ fn put_in<A: Allocator>(
 }
 
 /// Updates the markers of a session after one more operation was applied: removes the marker that
-/// is its item from its former position (`marker_position` of the operations before), and inserts
-/// the present one. If the position is the same, it is replaced there, and nothing moves. Takes log
-/// n comparisons for n markers and items, and otherwise moves the later markers. Fails only with
-/// `AllocError`, when an allocation fails: the session is then unchanged, or lacks only the marker
-/// that was there.
+/// is its item from its old position (`marker_position` of the operations before), and inserts it
+/// at the new one. If the position is the same, the marker is replaced there, and nothing moves.
+/// Takes log n comparisons for n markers and items, and otherwise moves the later markers. Fails
+/// only with `AllocError`, when an allocation fails: the session is then unchanged, or lacks only
+/// the marker that was there.
 pub fn update_markers<A: Allocator + Clone>(
     session: &mut Session<A>,
     located: Option<u32>,

@@ -31,12 +31,12 @@ pub fn located<A: Allocator>(items: &ItemStates<A>, item: Stamp) -> Located
     }
 }
 
-/// Updates a session after one more operation was applied: removes the entry of its item where it
-/// was before (`located` of the operations before), and inserts the present one. `list` has the
-/// places of all applied operations (`add_place`); the number held stays. Takes the time of
+/// Updates a session after one more operation was applied: removes the old entry of its item
+/// (`located` of the operations before), and inserts the new one. `list` has the places of all
+/// applied operations (`add_place`); the number held is unchanged. Takes the time of
 /// `update_tracks`, `update_markers` or `update_clips`, depending on the kind of the item. Fails
 /// only with `AllocError`, when an allocation fails: the session is then unchanged, or lacks only
-/// the entry that was there.
+/// the old entry.
 pub fn update<A: Allocator + Clone>(
     alloc: &A,
     session: &mut Session<A>,

@@ -36,7 +36,7 @@ fn take_out<A: Allocator>(session: &mut Session<A>, item: Stamp) -> Option<Track
     }
 }
 
-// The present track of a stamp, if it is shown: with the clips of the track that was removed, or
+// The new entry of a track, if it is shown: with the clips of the track that was removed, or
 // otherwise with all its clips; a track that was not known before has none.
 fn track_now<A: Allocator + Clone>(
     alloc: &A,
@@ -146,7 +146,7 @@ fn put_shown<A: Allocator>(
 }
 
 /// Updates the tracks of a session after one more operation was applied, whose item is a track:
-/// removes the track where it was, and inserts it at its present place, if it is shown. A track
+/// removes the track where it was, and inserts it at its current place, if it is shown. A track
 /// that was shown keeps its clips; a restored one gets all its clips again, which visits every
 /// clip; one that was not `known` before (see `located`) has none. `list` has the places of all
 /// applied operations (`add_place`). The search is linear in the tracks, and linear in the places
