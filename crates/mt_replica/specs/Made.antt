@@ -88,7 +88,7 @@ module _ (ready : List Op) where
 
 -- ---- the refusals
 
--- whether a clip plays at least one frame, for all ready operations
+-- whether a clip plays at least one frame, whatever operations are ready
 abbrev pub plays : Edit → Bool
 plays edit = length_is_good (made_act [] edit)
 

@@ -121,8 +121,8 @@ impl<A: Allocator> ItemStates<A> {
         self.apply_near(NO_HINT, op)
     }
 
-    /// Applies an operation as `apply` does, and looks for the cells of its item first at an index
-    /// from `prefetch`.
+    /// Applies an operation as `apply` does, with the same error, and looks for the cells of its
+    /// item first at an index from `prefetch`.
     pub fn apply_near(self, near: usize, op: &Op<A>) -> Result<Self, AllocError>
     where
         A: Clone,

@@ -88,7 +88,7 @@ abbrev pub AppliedAreTheSession : Type 0
 AppliedAreTheSession = (s ops : List Op) → AreApplied ops → IsPermutation ops (ready_ops s)
     → session_of s ≡ session_in ops (length (held_ops s))
 
--- the places of tracks in tree order; and below, the place that an operation adds
+-- the places of tracks in tree order, and the place that an operation adds
 abbrev pub places_in_order : List Op → List Stamp
 places_in_order ops = sort_by (tree_cmp (places_in ops)) (stamps_of (places_in ops))
 

@@ -80,7 +80,8 @@ fn cut_short<A: Allocator>(text: &mut Vec<u8, A>)
 }
 
 /// The title of a marker from a label: the text that `append_shown` writes, cut after the last
-/// whole character within 255 bytes. A label that is a title is its own title.
+/// whole character within 255 bytes. A label that is a title is its own title. Fails only when an
+/// allocation fails.
 pub fn label_title<A: Allocator>(alloc: A, label: &[u8]) -> Result<Vec<u8, A>, AllocError>
     ensures { IfOk result (λ title. title.items ≡ title_of label.now) }
 {

@@ -19,11 +19,11 @@ use std::alloc::{AllocError, Allocator};
 pub(crate) struct Event {
     /// The digest of the recording.
     pub(crate) source: Digest,
-    /// The first frame of the recording.
+    /// Its first frame in the recording.
     pub(crate) offset: u64,
-    /// The first frame of the session.
+    /// Its first frame in the session.
     pub(crate) start: u64,
-    /// The frame of the session after the last.
+    /// The frame of the session after its last.
     pub(crate) end: u64,
 }
 

@@ -20,7 +20,7 @@ part_of most text = number text >>= λ n. Some (most * n / 10 ^ length text)
 abbrev pub frame_by : ℕ → ℕ → ℕ → Option ℕ
 frame_by rate whole part = passing (λ n. nat_lt n (2 ^ 32)) ((2 * rate * whole + part + 1) / 2)
 
--- the frame of the digits of whole seconds; and below, with digits after their point
+-- the frame of the digits of whole seconds, without and with digits after their point
 abbrev pub by_whole : ℕ → List ℕ → Option ℕ
 by_whole rate whole = capped whole >>= λ w. frame_by rate w 0
 
