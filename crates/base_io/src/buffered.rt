@@ -1,4 +1,4 @@
-//! A latch with a buffer before it, and what handing bytes to it does.
+//! A latch with a buffer in front of it, and the effect of writing bytes to it.
 
 ghost use Rattle.std.specs.Prelude.{◌≡◌, [], is_err, IfErr};
 ghost use Rattle.std.specs.Fmt.{decimal};
@@ -10,14 +10,14 @@ use crate::latch::Latch;
 use arrayvec::ArrayVec;
 use std::io::Write;
 
-/// How many bytes wait at most.
+/// The greatest number of bytes in the buffer.
 const WAITING: usize = 4096;
 
-/// A latch with a buffer before it, for an output of many pieces.
+/// A latch with a buffer in front of it, for an output of many pieces.
 ///
-/// Pieces are handed over one after another, and no answer is asked for any of them: the latch
-/// stays failed from its first failure on, so `flush` tells once, at the end, whether all came
-/// through. What still waits when this is let go is lost.
+/// Pieces are written one after another, and no result is checked for any of them: the latch stays
+/// failed from its first failure on, so `flush` reports once, at the end, whether all pieces were
+/// written. Bytes that are still in the buffer when it is dropped are lost.
 #[derive(Drop)]
 pub struct BufferedLatch<'a, W> {
     waiting: ArrayVec<u8, WAITING>,
@@ -25,7 +25,7 @@ pub struct BufferedLatch<'a, W> {
 }
 
 impl<'a, W: Write> BufferedLatch<'a, W> {
-    /// An empty buffer before `latch`.
+    /// An empty buffer in front of `latch`.
     pub fn new(latch: &'a mut Latch<W>) -> BufferedLatch<'a, W>
         ensures same_reference { result.latch.ghost_name ≡ latch.entry.ghost_name }
         ensures same_latch { result.latch.now ≡ latch.old }
@@ -37,15 +37,16 @@ impl<'a, W: Write> BufferedLatch<'a, W> {
         }
     }
 
-    /// Whether the latch has failed, so that nothing is written any more.
+    /// Whether the latch has failed, so that nothing more is written.
     pub fn failed(&self) -> bool
         ensures { result ≡ self.now.latch.now.failed }
     {
         self.latch.failed()
     }
 
-    /// Hands bytes over. They wait, or what waited is written and they wait then, or they are
-    /// written too: more than 4,096 bytes are not copied.
+    /// Writes bytes. They go into the buffer; if they do not fit, the buffer is written first; and
+    /// if they still do not fit, they are written too: a piece of more than 4,096 bytes is not
+    /// copied.
     #[tactic(auto, unfolding(crate::specs::Buffered::Puts))]
     pub fn put(&mut self, bytes: &[u8])
         ensures { Puts W.contents self.old self.new bytes.now }
@@ -59,7 +60,7 @@ impl<'a, W: Write> BufferedLatch<'a, W> {
         }
     }
 
-    /// Hands a number over, in decimal.
+    /// Writes a number in decimal.
     pub fn put_decimal(&mut self, number: u64)
         ensures { Puts W.contents self.old self.new (decimal number) }
     {
@@ -67,11 +68,11 @@ impl<'a, W: Write> BufferedLatch<'a, W> {
         self.put(digits.format(number).as_bytes());
     }
 
-    /// Writes what waits, and tells whether all bytes that were handed over came through. Nothing
-    /// waits then.
+    /// Writes the bytes in the buffer, and reports whether all pieces were written. The buffer is
+    /// empty afterwards.
     ///
-    /// `Write` (37) where the latch has failed, before or in this call. The writer has then taken a
-    /// prefix of all that was handed over.
+    /// Fails with `Write` (37) if the latch fails, before or in this call. A prefix of all pieces
+    /// has then been written.
     #[tactic(auto, unfolding(crate::specs::Buffered::Puts))]
     pub fn flush(&mut self) -> Result<(), LatchFault>
         ensures puts { Puts W.contents self.old self.new [] }

@@ -1,4 +1,4 @@
-//! Why a latch refused a call.
+//! The errors of a latch.
 
 ghost use Rattle.std.specs.Prelude.{◌≡◌};
 ghost use Rattle.base_io.specs.Latch.{number_of};
@@ -7,22 +7,22 @@ ghost use Rattle.base_io.specs.declared.fault.LatchFault.TheVariants.{Memory};
 use std::alloc::AllocError;
 use thiserror::Error;
 
-/// Why a latch refused a call.
+/// Why a call of a latch failed.
 #[derive(Clone, Copy, Debug, PartialEq, Eq, Error)]
 pub enum LatchFault {
-    /// A growth was refused.
+    /// An allocation failed.
     #[error("out of memory")]
     Memory,
-    /// The latch has failed, and does not write.
+    /// The latch has failed, and no longer writes.
     #[error("the writer has failed")]
     Write,
-    /// The latch has failed, and does not read.
+    /// The latch has failed, and no longer reads.
     #[error("the reader has failed")]
     Read,
 }
 
 impl LatchFault {
-    /// The refusal's number: 0, 37 or 45.
+    /// The error's number: 0, 37 or 45.
     pub fn number(self) -> u8
         ensures { result ≡ number_of self }
     {

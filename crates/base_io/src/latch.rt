@@ -1,4 +1,4 @@
-//! A latch, and what its calls do.
+//! A latch, and the effect of its calls.
 
 ghost use Rattle.std.specs.Prelude.{◌≡◌, ◌+◌, ◌<◌, ◌≤◌, ◌≢◌, [], length, true, false};
 ghost use Rattle.std.specs.Prelude.{is_err, IfOk, IfErr, IfSome, OnOk};
@@ -14,18 +14,18 @@ use std::alloc::Allocator;
 use std::io::{Read, Write};
 use std::marker::Model;
 
-/// How many reads a latch allows: 16,777,216.
+/// The number of reads that a latch allows: 16,777,216.
 const READS_ALLOWED: u32 = 16_777_216;
 
-/// How many bytes `get_all` asks for in one read: enough that a large file takes few reads, and
-/// little enough to stand among the locals.
+/// The number of bytes that `get_all` requests in one read: enough for a large file to take few
+/// reads, and few enough for the stack.
 const PIECE: usize = 65_536;
 
-/// A reader or a writer that fails once and for all: at the first error of the value in it, of an
-/// interrupted call too, at a write that takes no byte of a piece that has some, and at the read
+/// A reader or a writer that fails permanently: at the first error of the value in it, even an
+/// interrupted call, at a write that takes no byte of a piece that is not empty, and at the read
 /// after its 16,777,216th.
 ///
-/// In clauses it is the record of `inner`, `failed` and `reads_left`.
+/// In contracts it is the record of `inner`, `failed` and `reads_left`.
 #[derive(Drop)]
 pub struct Latch<T> {
     inner: T,
@@ -57,14 +57,14 @@ impl<T> Latch<T> {
         }
     }
 
-    /// Whether it has failed, so that it refuses every call.
+    /// Whether it has failed, so that every call fails.
     pub fn failed(&self) -> bool
         ensures { result ≡ self.now.failed }
     {
         self.failed
     }
 
-    /// The reader or writer in it, as the calls left it.
+    /// The reader or writer in it, in its state after the calls.
     pub fn into_inner(self) -> T
         ensures { result ≡ self.inner }
     {
@@ -76,7 +76,7 @@ impl<T> Latch<T> {
         inner
     }
 
-    /// Refuses by `fault` where the latch has failed.
+    /// Fails with `fault` if the latch has failed.
     fn unless_failed(&self, fault: LatchFault) -> Result<(), LatchFault>
         ensures only_when_failed { is_err result ≡ self.now.failed }
         ensures fault { IfErr result (λ given. given ≡ fault) }
@@ -84,7 +84,7 @@ impl<T> Latch<T> {
         if self.failed { Err(fault) } else { Ok(()) }
     }
 
-    /// Fails the latch, and hands `fault` on.
+    /// Marks the latch as failed, and returns `fault`.
     fn fail(&mut self, fault: LatchFault) -> LatchFault
         ensures failed { self.new ≡ record self.old { failed = true } }
         ensures fault { result ≡ fault }
@@ -95,10 +95,10 @@ impl<T> Latch<T> {
 }
 
 impl<W: Write> Latch<W> {
-    /// Writes all of `bytes`, in as many writes as it takes.
+    /// Writes all of `bytes`, in as many writes as necessary.
     ///
-    /// `Write` (37) where the latch has failed, before or in this call. The writer has then taken a
-    /// prefix of `bytes`, and was not asked where the latch had failed before.
+    /// Fails with `Write` (37) if the latch fails, before or in this call. A prefix of `bytes` has
+    /// then been written, and the writer was not called if the latch had failed before.
     pub fn put(&mut self, bytes: &[u8]) -> Result<(), LatchFault>
         ensures whole { OnOk result (
             Appends (W.contents self.old.inner) (W.contents self.new.inner) bytes.now) }
@@ -118,7 +118,7 @@ impl<W: Write> Latch<W> {
         Ok(())
     }
 
-    /// One write of a piece that has bytes, which fails the latch where none of them is taken.
+    /// One write of a piece that is not empty. The latch fails if no byte is taken.
     fn put_some(&mut self, piece: &[u8]) -> Result<usize, LatchFault>
         requires sound { self.old.failed ≡ false }
         requires some { 0 < length piece.now }
@@ -138,12 +138,12 @@ impl<W: Write> Latch<W> {
 }
 
 impl<R: Read> Latch<R> {
-    /// One read into `buffer`, and how many bytes it gave: 0 at the end of the reader, or where
-    /// `buffer` has no room.
+    /// One read into `buffer`. Returns the number of bytes read: 0 at the end of the reader, or if
+    /// `buffer` is empty.
     ///
-    /// `Read` (45) where the latch has failed, before or in this call. Nothing was consumed then,
-    /// and the reader was not asked, and `buffer` is as it was, where the latch had failed before
-    /// or allowed no more reads. What `buffer` holds after a read that failed is the reader's.
+    /// Fails with `Read` (45) if the latch fails, before or in this call. Nothing was consumed
+    /// then. If the latch had failed before or allowed no more reads, the reader was not called and
+    /// `buffer` is unchanged; after a failed read, the reader determines the contents of `buffer`.
     pub fn get(&mut self, buffer: &mut [u8]) -> Result<usize, LatchFault>
         ensures bound { ReadsAtMost result buffer.new }
         ensures bytes { ReadConsumes (R.remaining self.old.inner) (R.remaining self.new.inner)
@@ -168,11 +168,11 @@ impl<R: Read> Latch<R> {
         }
     }
 
-    /// Reads to the end, and gives all the bytes that were left.
+    /// Reads to the end, and returns all remaining bytes.
     ///
-    /// `Read` (45) where the latch has failed, before or in this call; `Memory` (0) where an
-    /// allocation failed, and the latch has not failed then. Either way the bytes that were read by
-    /// then are gone.
+    /// Fails with `Read` (45) if the latch fails, before or in this call, and with `Memory` (0)
+    /// when an allocation fails, in which case the latch has not failed. In both cases the bytes
+    /// read so far are lost.
     pub fn get_all<A: Allocator>(&mut self, alloc: A) -> Result<Vec<u8, A>, LatchFault>
         ensures whole { IfOk result (λ bytes.
             IfSome (R.remaining self.old.inner) (λ left. bytes.items ≡ left)) }

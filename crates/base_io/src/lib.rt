@@ -1,10 +1,10 @@
 //! A reader or a writer that stays failed from its first failure on.
 //!
-//! A loop over a plain reader need not end, and after an error nobody can say how far a plain
-//! writer came. A [`Latch`] round either one fails at the first error of the value in it, and from
-//! then on refuses every call and does not ask that value again. So a user passes a refusal on, and
-//! nothing is ever written after a gap. Who writes many pieces puts a [`BufferedLatch`] before the
-//! latch, hands over one after another, and asks once, at the end.
+//! A loop over a plain reader may never end, and after an error nobody knows how much a plain
+//! writer has written. A [`Latch`] around either one fails at the first error of the value in it,
+//! and from then on every call fails without using that value. So the caller passes an error on,
+//! and nothing is ever written after a gap. For an output of many pieces, put a [`BufferedLatch`]
+//! in front of the latch, write the pieces one after another, and check once, at the end.
 //!
 //! ```rust
 //! use base_io::{BufferedLatch, Latch};
@@ -12,22 +12,21 @@
 //!
 //! fn copies_a_text(rt: HostRuntime) -> Result<(), Fail> {
 //!     let mut input = Latch::new(b"News".as_slice());
-//!     let bytes = input.get_all(rt.alloc())?;      // all that is left, or a refusal
+//!     let bytes = input.get_all(rt.alloc())?;      // all remaining bytes, or an error
 //!     let mut output = Latch::new(Vec::new(rt.alloc()));
-//!     output.put(b"copy of ")?;                    // all of it, or a prefix and `output` has failed
+//!     output.put(b"copy of ")?;                    // all, or a prefix if `output` has failed
 //!     let mut pieces = BufferedLatch::new(&mut output);
 //!     pieces.put_decimal(bytes.len() as u64);
-//!     pieces.put(b" bytes: ");                     // no answer yet
+//!     pieces.put(b" bytes: ");                     // no result yet
 //!     pieces.put(&bytes);
-//!     pieces.flush()?;                             // all pieces, or a prefix and `output` has failed
+//!     pieces.flush()?;                             // all, or a prefix if `output` has failed
 //!     assert!(rt; output.into_inner().as_slice() == b"copy of 4 bytes: News".as_slice());
 //!     Ok(())
 //! }
 //! ```
 //!
-//! Two things are shown by the tests alone, since no clause can name the error of a reader or
-//! writer of any type: that a latch does not fail by itself, and that an interrupted call is not
-//! tried again.
+//! Two things are only tested, since no contract can name the error of a reader or writer of any
+//! type: that a latch does not fail by itself, and that an interrupted call is not retried.
 #![tactic(auto)]
 
 mod buffered;

@@ -1,10 +1,10 @@
-//! Rows of words, one word for each lane: so the compiler finds the lanes of each row side by side,
-//! and does not have to lay them so.
+//! Rows of words, one word for each lane: the lanes of a row are adjacent in memory, so that the
+//! compiler does not have to move them.
 
 ghost use Rattle.std.specs.Prelude.{◌≡◌, ◌≢◌, ℕ, ◌<◌, slice_index};
 ghost use Rattle.base_sha256.specs.Lanes.{column};
 
-/// What a lane has of each row.
+/// The words of a lane, one from each row.
 #[inline(always)]
 pub(crate) fn column<const N: usize, const M: usize>(rows: &[[u32; N]; M], lane: usize) -> [u32; M]
     requires { lane < N }
@@ -17,7 +17,7 @@ pub(crate) fn column<const N: usize, const M: usize>(rows: &[[u32; N]; M], lane:
     words
 }
 
-// Gives a lane its word of a row.
+// Writes the word of a lane in a row.
 #[inline(always)]
 fn put<const N: usize>(row: &mut [u32; N], lane: usize, word: u32)
     requires { lane < N }
@@ -27,7 +27,7 @@ fn put<const N: usize>(row: &mut [u32; N], lane: usize, word: u32)
     row[lane] = word;
 }
 
-/// Gives a lane its word of each row.
+/// Writes the words of a lane, one in each row.
 #[inline(always)]
 pub(crate) fn put_column<const N: usize, const M: usize>(
     rows: &mut [[u32; N]; M],

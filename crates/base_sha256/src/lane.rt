@@ -1,4 +1,4 @@
-//! Messages on their way through the rounds, several at a time.
+//! Messages that are being hashed, several at a time.
 
 ghost use Rattle.std.specs.Prelude.{◌≡◌, ◌+◌, ◌*◌, ◌/◌, ◌%◌, ◌<◌, ◌≤◌, All, IfOk, List, ℕ, drop};
 ghost use Rattle.std.specs.Prelude.{get_or, length, map, slice_index, take};
@@ -13,7 +13,7 @@ use crate::single::absorb;
 use crate::transposing::put_blocks;
 use std::alloc::{AllocError, Allocator};
 
-// A message, of which so many blocks are in the state.
+// A message, with this many of its blocks in the state.
 #[derive(Clone, Copy)]
 struct Lane<'a> {
     message: &'a [u8],
@@ -24,7 +24,7 @@ struct Lane<'a> {
 }
 
 impl<'a> Lane<'a> {
-    // A message of which nothing is in the state.
+    // A message with no block in the state.
     fn new(message: &'a [u8]) -> Lane<'a>
         ensures { result.message.now ≡ message.now }
     {
@@ -35,21 +35,21 @@ impl<'a> Lane<'a> {
         }
     }
 
-    // What a lane keeps.
+    // The invariant of a lane.
     fn known(&self)
         ensures within { self.now.blocks * 64 ≤ length self.now.message.now }
         ensures held { self.now.state ≡ hash_after initial_hash_256 self.now.message.now
             self.now.blocks }
     {}
 
-    // How many whole blocks are left.
+    // The number of whole blocks that are left.
     fn left(&self) -> usize
         ensures { self.now.blocks + result ≡ length self.now.message.now / 64 }
     {
         self.message.len() / 64 - self.blocks
     }
 
-    // Block `i` of what is left.
+    // Block `i` of those that are left.
     fn block(&self, i: usize) -> &'a [u8]
         requires { self.now.blocks + i < length self.now.message.now / 64 }
         ensures bytes { result.now ≡ block (self.now.blocks + i) self.now.message.now }
@@ -59,7 +59,7 @@ impl<'a> Lane<'a> {
         &self.message[at..at + 64]
     }
 
-    // How many blocks are in the state once `count` more are.
+    // The number of blocks in the state after `count` more.
     fn blocks_after(&self, count: usize) -> usize
         requires { self.now.blocks + count ≤ length self.now.message.now / 64 }
         ensures { result ≡ self.now.blocks + count }
@@ -67,7 +67,7 @@ impl<'a> Lane<'a> {
         self.blocks + count
     }
 
-    // All that is left.
+    // All bytes that are left.
     fn rest(&self) -> &'a [u8]
         ensures { result.now ≡ drop (64 * self.now.blocks) self.now.message.now }
     {
@@ -98,7 +98,7 @@ fn finished(lane: &Lane<'_>) -> [u8; 32]
     ended(state, rest_of(lane.message), lane.message.len() as u64)
 }
 
-// How many blocks of each message are in its state once `count` more are.
+// For each message, the number of blocks in its state after `count` more.
 fn blocks_after<const N: usize>(lanes: &[Lane<'_>], places: &[usize; N], count: usize) -> [usize; N]
     requires within { All (λ place. place < length lanes.now) places.now }
     requires left { HaveLeft count (map (λ lane. lane.message.now) lanes.now)
@@ -128,7 +128,7 @@ fn states_at<const N: usize>(lanes: &[Lane<'_>], places: &[usize; N]) -> [[u32; 
     states
 }
 
-// How many blocks each of the messages has left at least.
+// The least number of blocks that one of the messages has left.
 fn least_left<const N: usize>(lanes: &[Lane<'_>], places: &[usize; N]) -> usize
     requires { All (λ place. place < length lanes.now) places.now }
     ensures { HaveLeft result (map (λ lane. lane.message.now) lanes.now)
@@ -141,7 +141,7 @@ fn least_left<const N: usize>(lanes: &[Lane<'_>], places: &[usize; N]) -> usize
     least
 }
 
-// Takes the words of block `i` of what is left of each message: row t gets each lane's t-th word.
+// Writes the words of block `i` of the rest of each message: row t gets the t-th word of each lane.
 fn take_words<const N: usize>(
     words: &mut [[u32; N]; 16],
     lanes: &[Lane<'_>],
@@ -167,7 +167,7 @@ fn take_words<const N: usize>(
     }
 }
 
-// The states of the messages once `count` more blocks of each are in them.
+// The states of the messages after `count` more blocks of each.
 fn states_after<const N: usize>(
     lanes: &[Lane<'_>],
     places: &[usize; N],
@@ -190,8 +190,8 @@ fn states_after<const N: usize>(
     states
 }
 
-// Takes as many blocks of the messages at some places as each of them has left. A message whose
-// place stands there twice is written twice, the same both times.
+// Hashes n blocks of each of the messages at these places, where n is the least number that one of
+// them has left. A message whose place occurs twice is written twice, with the same value.
 fn turn<const N: usize>(lanes: &mut [Lane<'_>], places: &[usize; N])
     requires few { N ≤ 8 }
     requires fours { N % 4 ≡ 0 }
@@ -207,7 +207,7 @@ fn turn<const N: usize>(lanes: &mut [Lane<'_>], places: &[usize; N])
     }
 }
 
-// Which of the places has a message of which nothing is left: the first.
+// The first of the places whose message has no block left.
 fn first_done<const N: usize>(lanes: &[Lane<'_>], places: &[usize; N]) -> usize
     requires some { 0 < N }
     requires within { All (λ place. place < length lanes.now) places.now }
@@ -221,8 +221,8 @@ fn first_done<const N: usize>(lanes: &[Lane<'_>], places: &[usize; N]) -> usize
     0
 }
 
-// Leaves the message at place `done` out of `live + 1` messages. The lanes behind them repeat the
-// first one's.
+// Removes the message at place `done` from `live + 1` messages. The unused lanes at the end repeat
+// the first one's message.
 fn leave_out<const N: usize>(places: &mut [usize; N], done: usize, live: usize)
     requires done { done < N }
     requires live { live < N }
@@ -236,8 +236,8 @@ fn leave_out<const N: usize>(places: &mut [usize; N], done: usize, live: usize)
     }
 }
 
-// Takes blocks of the messages into their states, N messages at a time, until fewer than `least`
-// are left. A lane with no message of its own repeats another's.
+// Hashes blocks of the messages, N messages at a time, until fewer than `least` are left. A lane
+// without a separate message repeats another's.
 fn advance_lanes<const N: usize>(lanes: &mut [Lane<'_>], least: usize)
     requires few { N ≤ 8 }
     requires fours { N % 4 ≡ 0 }
@@ -254,7 +254,7 @@ fn advance_lanes<const N: usize>(lanes: &mut [Lane<'_>], least: usize)
     'begin: for k in 0..live {
         places[k] = k;
     }
-    // Each turn ends a message at least.
+    // Each turn finishes at least one message.
     'turns: for _ in 0..lanes.len() {
         turn(lanes, &places);
         let done = first_done(lanes, &places);
@@ -270,8 +270,7 @@ fn advance_lanes<const N: usize>(lanes: &mut [Lane<'_>], least: usize)
     }
 }
 
-// Takes blocks of the messages into their states, until it is quicker to go on with one after
-// another.
+// Hashes blocks of the messages, until it is faster to continue with one message after another.
 fn advance(lanes: &mut [Lane<'_>])
     ensures { map (λ lane. lane.message.now) lanes.new ≡ map (λ lane. lane.message.now) lanes.old }
 {
@@ -279,8 +278,8 @@ fn advance(lanes: &mut [Lane<'_>])
     advance_lanes::<4>(lanes, 3);
 }
 
-/// The SHA-256 digest of each message, in their order (FIPS 180-4). Four of one length take about
-/// half of the time that they take one by one. Refused only where an allocation failed.
+/// The SHA-256 digest of each message, in the same order (FIPS 180-4). Four messages of one length
+/// take about half of the time that they take one by one. Fails only when an allocation fails.
 pub fn digests_of<A: Allocator + Clone>(
     alloc: A,
     messages: &[&[u8]],

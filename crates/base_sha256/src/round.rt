@@ -1,13 +1,13 @@
-//! One round, and what ends the rounds of a block (FIPS 180-4, section 6.2.2).
+//! One round, and the end of a block (FIPS 180-4, section 6.2.2).
 
 ghost use Rattle.std.specs.Prelude.{◌≡◌, ℕ, slice_index};
 ghost use Rattle.sha2.specs.Sha256.{add32, add_state, big_sigma1, round};
 
 use crate::words::{big_sigma0, ch, maj};
 
-/// A round of a word and a constant, which are added up already: their sum waits for no round. Σ1
-/// of the fifth variable comes along, since its best form depends on how many messages go on
-/// together.
+/// A round with the sum of a word and a constant, which does not depend on the round before. Σ1 of
+/// the fifth variable is an argument, since its fastest form depends on the number of messages that
+/// are hashed together.
 #[inline(always)]
 pub(crate) fn round(variables: [u32; 8], sum: u32, sigma1: u32) -> [u32; 8]
     requires { sigma1 ≡ big_sigma1 (slice_index variables 4) }
@@ -32,7 +32,7 @@ pub(crate) fn round(variables: [u32; 8], sum: u32, sigma1: u32) -> [u32; 8]
     ]
 }
 
-/// The hash value with what the rounds left added to it.
+/// The hash value plus the variables after the rounds.
 #[inline(always)]
 pub(crate) fn sum(state: [u32; 8], variables: [u32; 8]) -> [u32; 8]
     ensures { result ≡ add_state state variables }

@@ -1,5 +1,5 @@
-//! One message by itself. Its rounds wait for each other, but its schedule does not wait for its
-//! rounds: four words of it at a time lie in the lanes of a vector.
+//! A single message. Each of its rounds depends on the one before, but its schedule does not depend
+//! on the rounds: four words of it at a time are in the lanes of a vector.
 
 ghost use Rattle.std.specs.Prelude.{◌≡◌, ℕ, ◌+◌, ◌-◌, ◌*◌, ◌/◌, ◌%◌, ◌^◌, ◌<◌, ◌≤◌, List, [], ◌∷◌};
 ghost use Rattle.std.specs.Prelude.{bit_or, length, map, slice_index};
@@ -49,7 +49,7 @@ fn four_words(bytes: &[u8]) -> u32x4
     ]))
 }
 
-/// Four of the first sixteen words, which are the block's.
+/// Four of the first sixteen words, which are those of the block.
 #[inline(always)]
 pub(crate) fn first_four(block: &[u8], t: usize) -> u32x4
     requires block { length block.now ≡ 64 }
@@ -59,8 +59,8 @@ pub(crate) fn first_four(block: &[u8], t: usize) -> u32x4
     four_words(&block[4 * t..])
 }
 
-// The four words behind sixteen. The last two of them stand on the first two, so those are worked
-// out before.
+// The four words after these sixteen. The last two of them depend on the first two, so those are
+// computed first.
 #[inline(always)]
 fn next_four(a: u32x4, b: u32x4, c: u32x4, d: u32x4) -> u32x4
     ensures { (m : List ℕ) (t : ℕ) → 16 ≤ t → t + 4 ≤ 64 → AreWordsFrom (t - 16) (schedule m 48) a
@@ -105,8 +105,8 @@ fn four_rounds(variables: [u32; 8], words: u32x4, t: usize) -> [u32; 8]
     round(v, s, big_sigma1_flat(v[4]))
 }
 
-// Takes one block into a hash value. Nothing here is a loop, so the words stay in registers; and
-// nothing but `absorb` calls it, so the compiler lays it into the loop there.
+// Compresses one block into a hash value. There is no loop here, so the words stay in registers;
+// and only `absorb` calls it, so the compiler inlines it into the loop there.
 fn compress(state: &mut [u32; 8], block: &[u8])
     requires { length block.now ≡ 64 }
     ensures { state.new ≡ compress state.old block.now }
@@ -146,7 +146,7 @@ fn compress(state: &mut [u32; 8], block: &[u8])
     *state = sum(*state, v);
 }
 
-/// Takes the whole blocks of some bytes into a hash value.
+/// Compresses the whole blocks of some bytes into a hash value.
 pub(crate) fn absorb(state: &mut [u32; 8], bytes: &[u8])
     ensures { state.new ≡ hash_after state.old bytes.now (length bytes.now / 64) }
 {

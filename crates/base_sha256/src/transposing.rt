@@ -1,4 +1,4 @@
-//! The words of blocks side by side: row t has the t-th word of each block.
+//! The words of blocks, transposed: row t has the t-th word of each block.
 
 ghost use Rattle.std.specs.Prelude.{◌≡◌, ◌≢◌, ◌⊎◌, ◌∷◌, [], ℕ, List, ◌+◌, ◌<◌, ◌≤◌, length};
 ghost use Rattle.std.specs.Prelude.{slice_index};
@@ -8,7 +8,7 @@ ghost use Rattle.base_sha256.specs.Lanes.{column, four_columns};
 use crate::single::first_four;
 use std::simd::prelude::*;
 
-// Four words of each of four blocks, block by block for each word.
+// Four words of each of four blocks, transposed: for each word, the four blocks.
 #[inline(always)]
 fn transposed(a: u32x4, b: u32x4, c: u32x4, d: u32x4) -> [u32x4; 4]
     ensures { result ≡ four_columns (a ∷ b ∷ c ∷ d ∷ []) }

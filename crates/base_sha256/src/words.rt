@@ -1,5 +1,5 @@
-//! The functions on words of which the rounds are made (FIPS 180-4, section 4.1.2), in forms that
-//! take the fewest instructions.
+//! The functions on words that make up the rounds (FIPS 180-4, section 4.1.2), in forms with the
+//! fewest instructions.
 
 ghost use Rattle.std.specs.Prelude.{◌≡◌, ℕ};
 ghost use Rattle.sha2.specs.Sha256.{big_sigma0, big_sigma1, ch, maj, small_sigma0, small_sigma1};
@@ -11,7 +11,7 @@ pub(crate) fn ch(x: u32, y: u32, z: u32) -> u32
     z ^ (x & (y ^ z))
 }
 
-// What one round has as `x ^ y` the next one has as `y ^ z`.
+// The `x ^ y` of one round is the `y ^ z` of the next.
 #[inline(always)]
 pub(crate) fn maj(x: u32, y: u32, z: u32) -> u32
     ensures { result ≡ maj x y z }
@@ -19,8 +19,8 @@ pub(crate) fn maj(x: u32, y: u32, z: u32) -> u32
     y ^ ((x ^ y) & (y ^ z))
 }
 
-// A rotation of a rotated word, in this one and the three below: a processor with no rotation of
-// vectors copies a word for each rotation of it that is taken afresh.
+// A rotation of a rotated word, here and in the three functions below: without vector rotations, a
+// processor copies a word for each rotation that starts from it.
 #[inline(always)]
 pub(crate) fn big_sigma0(x: u32) -> u32
     ensures { result ≡ big_sigma0 x }
@@ -49,8 +49,8 @@ pub(crate) fn small_sigma1(x: u32) -> u32
     (x ^ x.rotate_right(2)).rotate_right(17) ^ (x >> 10)
 }
 
-// `big_sigma1` by rotations that do not wait for each other: three instructions one after another
-// in place of five. Where one message goes on by itself, each round waits for them.
+// `big_sigma1` by independent rotations: three instructions in sequence instead of five. When a
+// single message is hashed, each round waits for them.
 #[inline(always)]
 pub(crate) fn big_sigma1_flat(x: u32) -> u32
     ensures { result ≡ big_sigma1 x }

@@ -1,4 +1,4 @@
--- Where items stand in a list, by their stamps. Working definitions.
+-- Working definitions: the indexes of items in a list, by their stamps.
 use Rattle.std.specs.Prelude.{◌≡◌, ℕ, Bool, false, List, Option, Some, None, Vec, slice_get}
 use Rattle.std.specs.Prelude.{if◌then◌else◌}
 use Rattle.std.specs.Option.{option_and_then}
@@ -12,19 +12,19 @@ abbrev pub in_run : {A : Type 0} → BTreeMap ℕ (Vec ℕ A) → Stamp → Opti
 in_run runs stamp = option_and_then (λ run. slice_get run.items stamp.seq)
     (get nat_cmp runs stamp.replica.0)
 
--- where the item of a stamp stands, if it stands in the run of its replica
+-- the index of a stamp's item, if it is in the run of its replica
 abbrev pub first_place : {A : Type 0} → StampIndex A → Stamp → Option ℕ
 first_place index stamp = in_run index.runs stamp
 
--- where it stands, if it does not
+-- the index of a stamp's item, if it is in the map by stamp
 abbrev pub other_place : {A : Type 0} → StampIndex A → Stamp → Option ℕ
 other_place index stamp = get stamp_cmp index.others stamp
 
--- what the runs say of a stamp, they say of it still
+-- a stamp's index in the runs is unchanged
 abbrev pub StaysInRun : {A : Type 0} → BTreeMap ℕ (Vec ℕ A) → BTreeMap ℕ (Vec ℕ A) → Stamp → Type 0
 StaysInRun old new stamp = (i : ℕ) → in_run old stamp ≡ Some i → in_run new stamp ≡ Some i
 
--- whether a key is a stamp
+-- whether there is a key and it is this stamp
 abbrev pub is_key : Option Stamp → Stamp → Bool
 is_key None stamp = false
 is_key (Some key) stamp = stamp_eq stamp key
@@ -34,12 +34,12 @@ or_else None other = other
 or_else (Some i) other = Some i
 
 module _ (ks : List Stamp) where
-  -- an index at which the keys have the stamp
+  -- an index, if its key is the stamp
   abbrev pub checked : Option ℕ → Stamp → Option ℕ
   checked None stamp = None
   checked (Some i) stamp = if is_key (slice_get ks i) stamp then Some i else None
 
-  -- the index that is found of a stamp
+  -- the index that is found for a stamp
   abbrev pub index_in : {A : Type 0} → StampIndex A → Stamp → Option ℕ
   index_in index stamp = or_else (checked (first_place index stamp) stamp)
       (checked (other_place index stamp) stamp)

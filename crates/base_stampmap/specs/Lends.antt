@@ -1,4 +1,4 @@
--- What a map ends as, where a `&mut` to one of its values is returned.
+-- The final value of a map of which a `&mut` to one value is returned.
 use Rattle.std.specs.Prelude.{List, Option}
 use Rattle.std.specs.Borrow.{Lends, LendsIf, Fml, RattleType, MutBor}
 use Rattle.std.specs.Map.{set_value}
@@ -12,6 +12,6 @@ module _ (V A : RattleType) (alloc : Ghosts A.Denot) (m : MutBor (List (Stamp ×
   abbrev pub LendsValue : MutBor V.Denot → Fml
   LendsValue r = Lends (the_row V A alloc) V m r (λ w. set_value (stamp_eq stamp) m.now w)
 
-  -- the same where there is one, and else the map stays as it is
+  -- if the stamp has a value, that one is lent; otherwise the map is unchanged
   abbrev pub LendsValueIf : Option (MutBor V.Denot) → Fml
   LendsValueIf r = LendsIf (the_row V A alloc) V m r (λ w. set_value (stamp_eq stamp) m.now w) m.now

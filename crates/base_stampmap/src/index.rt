@@ -1,4 +1,4 @@
-//! Where the entries of a map stand.
+//! The index of a map's entries.
 
 ghost use Rattle.std.specs.Prelude.{◌≡◌, ◌⊎◌, ℕ, true, false, Some, slice_get, IfOk, OnOk};
 ghost use Rattle.std.specs.BTreeMap.{get};
@@ -9,15 +9,16 @@ use mt_stamp::Stamp;
 use std::alloc::{AllocError, Allocator, Global};
 use std::collections::BTreeMap;
 
-// How many places of runs may stay empty for each entry.
+// The number of places of runs that may stay empty for each entry.
 const EMPTY_FOR_EACH: usize = 8;
 
-/// Where items that have stamps stand in a list that grows at its end: for each replica a run,
-/// which has at the number of a stamp the index of its item. What would leave too many places of a
-/// run empty, or comes after a greater number of its replica, stands in a map by stamp.
+/// An index from the stamps of items to their indexes in a list that grows at its end. For each
+/// replica it has a run, which stores at the number of a stamp the index of its item. An item that
+/// would leave too many places of a run empty, or that comes after a greater number of its replica,
+/// is stored in a map by stamp.
 ///
-/// It keeps four bytes for an item and no stamp: of each stamp it tells two places where its item
-/// may stand, and whoever asks looks whether it does.
+/// It stores four bytes for an item and no stamp: for each stamp it returns up to two places where
+/// its item may be, and the caller checks whether it is.
 #[derive(Drop)]
 pub struct StampIndex<A: Allocator = Global> {
     alloc: A,
@@ -26,8 +27,8 @@ pub struct StampIndex<A: Allocator = Global> {
     spare: usize,
 }
 
-// Puts an index into a run at a number, where that is behind its end and no more than `spare`
-// places stay empty between.
+// Appends an index to a run at a number, if that is past its end and at most `spare` places stay
+// empty between.
 fn put_behind<A: Allocator>(
     run: &mut Vec<u32, A>,
     number: usize,
@@ -47,7 +48,7 @@ fn put_behind<A: Allocator>(
     Ok(true)
 }
 
-// Puts an index into the run of a stamp's replica, where it has a place there.
+// Stores an index in the run of a stamp's replica, if it fits there.
 fn put_in_run<A: Allocator + Clone>(
     alloc: &A,
     runs: &mut BTreeMap<u128, Vec<u32, A>, A>,
@@ -73,7 +74,7 @@ fn put_in_run<A: Allocator + Clone>(
 impl<A: Allocator> StampIndex<A> {
     ghost use Rattle.base_stampmap.specs.Index.{first_place, other_place};
 
-    /// The index of an empty list. Refused only where the allocator could not be cloned.
+    /// The index of an empty list. Fails only when the allocator cannot be cloned.
     pub fn new(alloc: A) -> Result<Self, AllocError>
     where
         A: Clone,
@@ -86,7 +87,8 @@ impl<A: Allocator> StampIndex<A> {
         })
     }
 
-    /// Where the item of a stamp stands, if it is in the list and stands in the run of its replica.
+    /// The index of a stamp's item, if the item is in the list and its index is in the run of its
+    /// replica.
     pub fn first_place(&self, stamp: Stamp) -> Option<usize>
         ensures { result ≡ first_place self.now stamp }
     {
@@ -99,15 +101,15 @@ impl<A: Allocator> StampIndex<A> {
         }
     }
 
-    /// Where it stands, if it is in the list and not there.
+    /// The index of a stamp's item, if the item is in the list and its index is not in a run.
     pub fn other_place(&self, stamp: Stamp) -> Option<usize>
         ensures { result ≡ other_place self.now stamp }
     {
         self.others.get(&stamp).copied()
     }
 
-    /// Notes the index of the item of a new stamp. Where an allocation failed, it tells of each
-    /// other stamp what it told before.
+    /// Stores the index of the item of a new stamp. If an allocation fails, the results for all
+    /// other stamps are unchanged.
     pub fn point(&mut self, stamp: Stamp, index: usize) -> Result<(), AllocError>
     where
         A: Clone,

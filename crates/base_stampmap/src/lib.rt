@@ -1,9 +1,8 @@
-//! A map from the stamps of operations to values, whose entries stand in the order in which they
-//! were put in.
+//! A map from the stamps of operations to values, whose entries keep the order of insertion.
 //!
-//! A replica numbers its operations 1, 2, 3. So the map keeps a run for each replica, which has at
-//! an operation's number the index of its entry: that finds it by one look at the run and one at
-//! the entry, whatever their number.
+//! A replica numbers its operations 1, 2, 3. So the map has a run for each replica, which stores at
+//! an operation's number the index of its entry: a look-up reads the run once and the entry once,
+//! whatever their number.
 //!
 //! ```text
 //! run of replica 10, by number:   .  0  .  2       entries:   0  (1, 10, 1)
@@ -22,21 +21,21 @@
 //!     map.insert(late, 'b')?;
 //!     map.insert(early, 'a')?;
 //!     assert!(rt; map.get(early) == Some(&'a'));
-//!     // of the same replica and number, but of another clock
+//!     // the same replica and number, but another clock
 //!     assert!(rt; !map.contains(Stamp::new(5, Replica(10), 1)?));
 //!     assert!(rt; map.entries() == [(late, 'b'), (early, 'a')].as_slice());
 //!     Ok(())
 //! }
 //! ```
 //!
-//! An entry that comes after one of a greater number of its replica, or whose number is so far on
-//! that the runs would have more than eight places to spare for each entry, is found by a search in
-//! a map by stamp. So a look-up takes at worst the logarithm of the number of entries, in whatever
-//! order they came and whatever stamps a hostile log has, and the runs take at most 36 bytes for
-//! each entry: four for each place, their own growth aside.
+//! An entry that comes after one with a greater number of its replica, or whose number would leave
+//! more than eight unused places in the runs for each entry, is found in a map by stamp instead. So
+//! a look-up takes at worst the logarithm of the number of entries, in whatever order they came and
+//! whatever stamps a hostile log has. The runs take at most 36 bytes for each entry, four for each
+//! place, not counting spare capacity.
 //!
-//! `StampIndex` is what such a map finds its entries by, for a list that somebody else keeps and
-//! that grows at its end: four bytes for an item, and no stamp.
+//! `StampIndex` is the index of such a map, for a list that is stored elsewhere and grows at its
+//! end: four bytes for an item, and no stamp.
 #![tactic(auto)]
 
 mod index;

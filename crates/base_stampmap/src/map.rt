@@ -14,12 +14,12 @@ use mt_stamp::Stamp;
 use std::alloc::{AllocError, Allocator, Global};
 use std::marker::Model;
 
-/// A map from stamps to values. Contracts see it as the list of its entries in the order in which
-/// they were put in; no two have the same stamp.
+/// A map from stamps to values. Contracts see it as the list of its entries in the order of
+/// insertion; no two have the same stamp.
 #[derive(Drop)]
 pub struct StampMap<V: Drop, A: Allocator = Global> {
     entries: Vec<(Stamp, V), A>,
-    // in a block of its own, so that little moves where a map does
+    // in a separate block, so that moving a map moves few bytes
     index: Box<StampIndex<A>, A>,
 }
 
@@ -41,7 +41,7 @@ impl<V: Drop, A: Allocator> Model for StampMap<V, A> {
 impl<V: Drop, A: Allocator> StampMap<V, A> {
     ghost use Rattle.base_stampmap.specs.Lends.{LendsValue, LendsValueIf};
 
-    /// The empty map. Refused only where memory was, or the allocator could not be cloned.
+    /// The empty map. Fails only when an allocation fails, or the allocator cannot be cloned.
     pub fn new(alloc: A) -> Result<Self, AllocError>
     where
         A: Clone,
@@ -50,8 +50,8 @@ impl<V: Drop, A: Allocator> StampMap<V, A> {
         StampMap::with_capacity(alloc, 0)
     }
 
-    /// The empty map, with memory for so many entries: none of them moves while no more are put in.
-    /// Refused only where memory was, or the allocator could not be cloned.
+    /// The empty map, with memory for this many entries: no entry moves as long as there are no
+    /// more. Fails only when an allocation fails, or the allocator cannot be cloned.
     pub fn with_capacity(alloc: A, capacity: usize) -> Result<Self, AllocError>
     where
         A: Clone,
@@ -64,7 +64,7 @@ impl<V: Drop, A: Allocator> StampMap<V, A> {
         })
     }
 
-    /// Whether the entry at an index has a stamp.
+    /// Whether the entry at an index has this stamp.
     pub fn stands_at(&self, index: usize, stamp: Stamp) -> bool
         ensures { result ≡ is_key (slice_get (keys_of self.now) index) stamp }
     {
@@ -74,13 +74,13 @@ impl<V: Drop, A: Allocator> StampMap<V, A> {
         }
     }
 
-    /// The index at which a stamp stands, if it has a value and its number comes after those that
-    /// its replica had before; else any. It looks at no entry.
+    /// The index of a stamp's entry, if the stamp has a value and its number comes after those that
+    /// its replica had before; any index otherwise. It reads no entry.
     pub fn likely_index(&self, stamp: Stamp) -> usize {
         self.index.first_place(stamp).unwrap_or(usize::MAX)
     }
 
-    // An index, where a stamp stands there.
+    // An index, if its entry has this stamp.
     fn checked(&self, index: Option<usize>, stamp: Stamp) -> Option<usize>
         ensures { result ≡ checked (keys_of self.now) index stamp }
     {
@@ -93,7 +93,7 @@ impl<V: Drop, A: Allocator> StampMap<V, A> {
         Some(index)
     }
 
-    /// The index at which a stamp stands among the entries, and `None` where it has no value.
+    /// The index of a stamp's entry, and `None` if the stamp has no value.
     pub fn index_of(&self, stamp: Stamp) -> Option<usize>
         ensures { MatchOption result (lookup (stamp_eq stamp) self.now ≡ None)
             (λ i. is_key (slice_get (keys_of self.now) i) stamp ≡ true) }
@@ -107,7 +107,7 @@ impl<V: Drop, A: Allocator> StampMap<V, A> {
         self.checked(self.index.other_place(stamp), stamp)
     }
 
-    // The index at which a stamp stands, looked for at one first.
+    // The index of a stamp's entry, with one index tried first.
     fn index_near(&self, near: usize, stamp: Stamp) -> Option<usize>
         ensures { MatchOption result (lookup (stamp_eq stamp) self.now ≡ None)
             (λ i. is_key (slice_get (keys_of self.now) i) stamp ≡ true) }
@@ -118,14 +118,15 @@ impl<V: Drop, A: Allocator> StampMap<V, A> {
         self.index_of(stamp)
     }
 
-    /// The value of a stamp, and `None` where it has none.
+    /// The value of a stamp, and `None` if it has none.
     pub fn get(&self, stamp: Stamp) -> Option<&V>
         ensures value { option_copied result ≡ lookup (stamp_eq stamp) self.now }
     {
         self.get_near(usize::MAX, stamp)
     }
 
-    /// The same, looked for first at an index, where `index_of` may have found it before.
+    /// The value of a stamp, and `None` if it has none. Looks first at an index, which `index_of`
+    /// may have returned before.
     pub fn get_near(&self, near: usize, stamp: Stamp) -> Option<&V>
         ensures value { option_copied result ≡ lookup (stamp_eq stamp) self.now }
     {
@@ -135,7 +136,7 @@ impl<V: Drop, A: Allocator> StampMap<V, A> {
         }
     }
 
-    // The value of the stamp that stands at an index.
+    // The value of the stamp whose entry is at an index.
     fn value_mut(&mut self, index: usize, stamp: Stamp) -> &mut V
         requires { is_key (slice_get (keys_of self.old) index) stamp ≡ true }
         ensures* writes_back { sem 𝓛 (LendsValue V.row A.row A.Allocator self.entry stamp result) }
@@ -145,7 +146,7 @@ impl<V: Drop, A: Allocator> StampMap<V, A> {
         &mut entry.1
     }
 
-    /// The value of a stamp, to change in place, and `None` where it has none.
+    /// A mutable reference to the value of a stamp, and `None` if it has none.
     pub fn get_mut(&mut self, stamp: Stamp) -> Option<&mut V>
         ensures* writes_back { sem 𝓛 (LendsValueIf V.row A.row A.Allocator self.entry stamp result)
             }
@@ -154,7 +155,8 @@ impl<V: Drop, A: Allocator> StampMap<V, A> {
         self.get_mut_near(usize::MAX, stamp)
     }
 
-    /// The same, looked for first at an index, where `index_of` may have found it before.
+    /// A mutable reference to the value of a stamp, and `None` if it has none. Looks first at an
+    /// index, which `index_of` may have returned before.
     pub fn get_mut_near(&mut self, near: usize, stamp: Stamp) -> Option<&mut V>
         ensures* writes_back { sem 𝓛 (LendsValueIf V.row A.row A.Allocator self.entry stamp result)
             }
@@ -173,14 +175,15 @@ impl<V: Drop, A: Allocator> StampMap<V, A> {
         self.contains_near(usize::MAX, stamp)
     }
 
-    /// The same, looked for first at an index, where `index_of` may have found it before.
+    /// Whether a stamp has a value. Looks first at an index, which `index_of` may have returned
+    /// before.
     pub fn contains_near(&self, near: usize, stamp: Stamp) -> bool
         ensures found { result ≡ is_some (lookup (stamp_eq stamp) self.now) }
     {
         self.get_near(near, stamp).is_some()
     }
 
-    /// The entries, in the order in which they were put in.
+    /// The entries, in the order of insertion.
     pub fn entries(&self) -> &[(Stamp, V)]
         ensures items { result.now ≡ self.now }
         ensures differ { IsDistinct stamp_eq (keys_of self.now) }
@@ -188,7 +191,7 @@ impl<V: Drop, A: Allocator> StampMap<V, A> {
         &self.entries
     }
 
-    /// The entries by value, in the order in which they were put in.
+    /// The entries by value, in the order of insertion.
     pub fn into_entries(self) -> Vec<(Stamp, V), A>
         ensures items { result.items ≡ self }
         ensures differ { IsDistinct stamp_eq (keys_of self) }
@@ -197,8 +200,8 @@ impl<V: Drop, A: Allocator> StampMap<V, A> {
         entries
     }
 
-    /// Puts a value in, last, under a stamp that has none. Refused only where an allocation failed;
-    /// the map is then as it was.
+    /// Appends a value under a stamp that has none. Fails only when an allocation fails; the map is
+    /// then unchanged.
     pub fn insert(&mut self, stamp: Stamp, value: V) -> Result<(), AllocError>
     where
         A: Clone,

@@ -3,6 +3,6 @@ use Rattle.std.specs.Prelude.{ℕ, Bool, false, ◌==◌, List, length, if◌the
 use Rattle.std.specs.Char.{is_ascii_digit}
 use Rattle.std.specs.List.{list_all}
 
--- one digit or more, and nothing else
+-- one or more digits, and nothing else
 abbrev pub are_digits : List ℕ → Bool
 are_digits text = if length text == 0 then false else list_all is_ascii_digit text

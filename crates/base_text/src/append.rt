@@ -1,4 +1,4 @@
-//! Words and numbers behind a text.
+//! Appending words and numbers to a text.
 
 ghost use Rattle.std.specs.Prelude.{◌≡◌, ◌++◌, OnOk, OnErr};
 ghost use Rattle.std.specs.Fmt.{decimal};
@@ -7,7 +7,7 @@ ghost use Rattle.std.specs.String.{string_bytes};
 use itoa::Buffer;
 use std::alloc::{AllocError, Allocator};
 
-/// Appends a number, in decimal. On `AllocError` the text is as it was.
+/// Appends a number in decimal. On `AllocError` the text is unchanged.
 pub fn append_decimal<A: Allocator>(text: &mut Vec<u8, A>, number: u64) -> Result<(), AllocError>
     ensures ok { OnOk result (text.new.items ≡ text.old.items ++ decimal number) }
     ensures err { OnErr result (text.new.items ≡ text.old.items) }
@@ -16,7 +16,7 @@ pub fn append_decimal<A: Allocator>(text: &mut Vec<u8, A>, number: u64) -> Resul
     text.extend_from_slice(digits.format(number).as_bytes())
 }
 
-/// Appends a label and a word. On `AllocError` the text may have the label alone.
+/// Appends a label and a word. On `AllocError` the text may end with the label alone.
 pub fn append_word<A: Allocator>(
     text: &mut String<A>,
     label: &str,
@@ -29,7 +29,7 @@ pub fn append_word<A: Allocator>(
     text.push_str(word)
 }
 
-/// Appends a label and a number, in decimal. On `AllocError` the text may have the label alone.
+/// Appends a label and a number in decimal. On `AllocError` the text may end with the label alone.
 pub fn append_number<A: Allocator>(
     text: &mut String<A>,
     label: &str,

@@ -1,4 +1,4 @@
-//! Where texts are cut.
+//! Cutting texts.
 
 ghost use Rattle.std.specs.Prelude.{◌≡◌, ◌∷◌, ◌<◌, length};
 ghost use Rattle.std.specs.Option.{option_map};
@@ -6,8 +6,7 @@ ghost use Rattle.base_text.specs.Cutting.{cut, lines};
 
 use memchr::memchr;
 
-/// What precedes the first such byte of a text, and what follows it. `None` where the text has no
-/// such byte.
+/// The texts before and after the first such byte. `None` if the text has no such byte.
 pub fn cut(byte: u8, text: &[u8]) -> Option<(&[u8], &[u8])>
     ensures { option_map (λ parts. (parts.0.now, parts.1.now)) result ≡ cut byte text.now }
 {
@@ -17,7 +16,7 @@ pub fn cut(byte: u8, text: &[u8]) -> Option<(&[u8], &[u8])>
     }
 }
 
-/// The first line of a text that is not empty, without its line feed, and what follows that.
+/// The first line of a text that is not empty, without its line feed, and the text after that.
 pub fn cut_line(text: &[u8]) -> (&[u8], &[u8])
     requires { 0 < length text.now }
     ensures lines { lines text.now ≡ result.0.now ∷ lines result.1.now }

@@ -12,7 +12,7 @@ fn all_digits(text: &[u8]) -> bool
     text.iter().all(|b| b.is_ascii_digit())
 }
 
-/// Whether a text is one ASCII digit or more, and nothing else.
+/// Whether a text consists of one or more ASCII digits.
 pub fn are_digits(text: &[u8]) -> bool
     ensures { result ≡ are_digits text.now }
 {

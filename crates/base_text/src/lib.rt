@@ -1,4 +1,4 @@
-//! Texts: where they are cut, and words and numbers behind them.
+//! Texts: cutting them, and appending words and numbers to them.
 //!
 //! ```rust
 //! use base_text::{append_number, append_word, are_digits, cut, cut_line};
@@ -20,7 +20,7 @@
 //! }
 //! ```
 //!
-//! `specs/Cutting.antt` says where texts are cut, `specs/Digits.antt` what digits are.
+//! `specs/Cutting.antt` defines how texts are cut, and `specs/Digits.antt` what digits are.
 #![tactic(auto)]
 
 mod append;

@@ -1,4 +1,4 @@
--- Words, and what they come to: what the definitions compute.
+-- Worked examples of words and their values.
 use Rattle.std.specs.Prelude.{◌≡◌, ◌*◌, Some, None, true, false, [], refl, codes}
 use Rattle.std.specs.Fmt.{digits}
 use Rattle.base_times.specs.Printing.{time_text}
@@ -24,7 +24,7 @@ pub seconds_alone : read_time 48000 (codes "1.5s") ≡ Some 72000
 unfolding form clock seconds
 seconds_alone = refl
 
--- half a frame comes to the later one
+-- half a frame is read as the later frame
 pub half_a_frame : read_time 1 (codes "2.5s") ≡ Some 3
 unfolding form clock seconds
 half_a_frame = refl
@@ -65,7 +65,7 @@ pub no_word : read_time 48000 [] ≡ None
 unfolding form clock seconds
 no_word = refl
 
--- a frame before the second
+-- one frame before the full second
 pub rounded_down : time_text 48000 175775999 ≡ codes "1:01:01.999"
 unfolding digits
 rounded_down = refl
@@ -80,7 +80,7 @@ pub one_and_a_half_above : level (codes "+1.5dB") ≡ Some (record { below = fal
 unfolding level signed_level tenths
 one_and_a_half_above = refl
 
--- half of it, and a little more
+-- about a half, and a little more
 pub half : amplitude_of (codes "-6dB") ≡ Some 501187233627272
 unfolding level signed_level tenths amplitude rest_amplitude
 half = refl

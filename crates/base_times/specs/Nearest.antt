@@ -1,16 +1,17 @@
--- The fraction nearest to an amplitude, of those with a divisor up to 1000 and a number up to
+-- The fraction nearest to an amplitude, among those with a divisor up to 1000 and a number up to
 -- 65,535.
 use Rattle.std.specs.Prelude.{ℕ, ◌*◌, ◌<◌, ◌≤◌}
 use Rattle.std.specs.Int.{abs_diff}
 use Rattle.base_times.specs.Decibels.{unit}
 use Rattle.base_times.specs.declared.fraction.Fraction.{Fraction}
 
--- how far num/den lies from an amplitude, as a fraction over den times the unit
+-- the distance of num/den from an amplitude, as the numerator of a fraction over den times the unit
 abbrev pub off : ℕ → ℕ → ℕ → ℕ
 off amp num den = abs_diff (num * unit) (amp * den)
 
--- f is the fraction nearest to the amplitude of those with a divisor from 1 to the most: the one
--- with the smallest divisor of those as near, and with it the greatest number
+-- f is the fraction nearest to the amplitude, among those with a divisor from 1 to the greatest
+-- allowed: of several equally near ones the one with the smallest divisor, and with that the
+-- greatest number
 pub record IsNearest (most amp : ℕ) (f : Fraction) : Type 0 where
   pub den_from : 1 ≤ f.den
   pub den_to : f.den ≤ most

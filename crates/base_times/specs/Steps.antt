@@ -1,4 +1,4 @@
--- What the steps of the readers give: no statement of the subject.
+-- Working definitions: the results of the steps of the readers.
 use Rattle.std.specs.Prelude.{ℕ, ◌*◌, ◌<◌, ◌≤◌, ◌^◌, nat_lt, List, Option}
 use Rattle.base_times.specs.declared.time.Time.{Time}
 use Rattle.base_text.specs.Cutting.{◌>>=◌}
@@ -8,7 +8,7 @@ use Rattle.base_times.specs.Words.{number, passing}
 abbrev pub small_number : List ℕ → Option ℕ
 small_number text = number text >>= passing (λ n. nat_lt n (2 ^ 32))
 
--- a time of fewer seconds than these, in at most 10^9 parts each
+-- a time under this many seconds, with at most 10^9 parts per second
 abbrev pub IsUnder : ℕ → Time → Type 0
 IsUnder seconds t = (1 ≤ t.per_second) × (t.per_second ≤ 10 ^ 9)
     × (t.count < seconds * t.per_second)

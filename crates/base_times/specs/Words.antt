@@ -1,4 +1,4 @@
--- How words are cut, and the numbers in them (profile): none where a word says nothing of its kind.
+-- Cutting words, and the numbers in them (profile): none for a text that is no such word.
 use Rattle.std.specs.Prelude.{ℕ, Bool, List, Option, Some, None, if◌then◌else◌}
 use Rattle.std.specs.Str.Parse.{digits_value}
 use Rattle.base_text.specs.Digits.{are_digits}
@@ -13,10 +13,10 @@ point = 46
 abbrev pub letter_s : ℕ
 letter_s = 115
 
--- the number that digits spell, however many there are
+-- the number with these digits, of any count
 abbrev pub number : List ℕ → Option ℕ
 number text = if are_digits text then Some (digits_value 10 text) else None
 
--- a number, where it passes a test
+-- a number, if it passes a test
 abbrev pub passing : (ℕ → Bool) → ℕ → Option ℕ
 passing test n = if test n then Some n else None

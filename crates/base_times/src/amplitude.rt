@@ -1,4 +1,4 @@
-//! Amplitudes of levels, in parts of which an amplitude of 1 is 10^15.
+//! Amplitudes of levels, in units of 10^-15.
 
 ghost use Rattle.std.specs.Prelude.{◌≡◌, ◌<◌, ◌≤◌, ◌^◌, ◌*◌, ◌/◌, nat_le, slice_index, IfSome};
 ghost use Rattle.base_times.specs.Words.{passing};
@@ -7,10 +7,10 @@ ghost use Rattle.base_times.specs.Decibels.{rest_amplitude, amplitude, amplitude
 
 use crate::level::{Level, level_of};
 
-// Of how many parts an amplitude of 1 is.
+// The number of units in an amplitude of 1.
 pub(crate) const UNIT: u128 = 1_000_000_000_000_000;
 
-// The greatest amplitude that is told.
+// The greatest amplitude that is read.
 const GREATEST: u128 = 65535 * UNIT;
 
 // The amplitudes of 0 to 19 decibels.
@@ -37,7 +37,7 @@ const WHOLE: [u64; 20] = [
     8_912_509_381_337_455,
 ];
 
-// And of 0 to 9 tenths of a decibel.
+// The amplitudes of 0 to 9 tenths of a decibel.
 const TENTHS: [u64; 10] = [
     1_000_000_000_000_000,
     1_011_579_454_259_898,
@@ -51,7 +51,7 @@ const TENTHS: [u64; 10] = [
     1_109_174_815_262_401,
 ];
 
-// The amplitude of so many whole decibels.
+// The amplitude of this many whole decibels.
 fn whole_amplitude(decibels: u32) -> u64
     requires { decibels < 20 }
     ensures result { result ≡ slice_index whole_amplitudes decibels }
@@ -61,7 +61,7 @@ fn whole_amplitude(decibels: u32) -> u64
     WHOLE[decibels as usize]
 }
 
-// The amplitude of so many tenths of a decibel.
+// The amplitude of this many tenths of a decibel.
 fn tenth_amplitude(tenths: u32) -> u64
     requires { tenths < 10 }
     ensures result { result ≡ slice_index tenth_amplitudes tenths }
@@ -71,7 +71,7 @@ fn tenth_amplitude(tenths: u32) -> u64
     TENTHS[tenths as usize]
 }
 
-// The amplitude of so many tenths of a decibel under 200, rounded down.
+// The amplitude of this many tenths of a decibel, under 200, rounded down.
 #[tactic(auto, unfolding(crate::specs::Decibels::rest_amplitude))]
 fn rest_amplitude(tenths: u32) -> u128
     requires { tenths < 200 }
@@ -84,7 +84,7 @@ fn rest_amplitude(tenths: u32) -> u128
     u128::from(whole) * u128::from(tenth) / UNIT
 }
 
-// A tenth of it, so many times over.
+// The amplitude divided by this power of ten.
 #[tactic(auto, using(crate::proofs::Amplitudes::far_below, crate::proofs::Amplitudes::some_power))]
 fn lowered(amplitude: u128, decades: u32) -> u128
     requires { amplitude < 10 ^ 17 }
@@ -97,7 +97,7 @@ fn lowered(amplitude: u128, decades: u32) -> u128
     amplitude / 10u128.pow(decades)
 }
 
-// Ten times as much, so many times over, where that is at most 65,535.
+// The amplitude times this power of ten, if it is at most 65,535.
 #[tactic(auto, using(crate::proofs::Amplitudes::far_above))]
 fn raised(amplitude: u128, decades: u32) -> Option<u128>
     requires large { unit ≤ amplitude }
@@ -115,7 +115,7 @@ fn raised(amplitude: u128, decades: u32) -> Option<u128>
     }
 }
 
-// The amplitude of a level, where it is at most 65,535.
+// The amplitude of a level, if it is at most 65,535.
 #[tactic(auto, unfolding(crate::specs::Decibels::amplitude))]
 fn level_amplitude(level: Level) -> Option<u128>
     requires { level.tenths < 10000 }
@@ -129,7 +129,7 @@ fn level_amplitude(level: Level) -> Option<u128>
     }
 }
 
-// The amplitude that a word tells, where it is at most 65,535.
+// The amplitude of a word, if it is at most 65,535.
 pub(crate) fn amplitude_of(word: &[u8]) -> Option<u128>
     ensures result { result ≡ amplitude_of word.now }
     ensures small { IfSome result (λ a. a ≤ 65535 * unit) }

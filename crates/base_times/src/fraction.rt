@@ -13,7 +13,7 @@ pub struct Fraction {
     pub den: u16,
 }
 
-// How far a fraction lies from an amplitude, in parts of which so many times its divisor make one.
+// The distance of a fraction from an amplitude, times the fraction's divisor, in units of 10^-15.
 fn off(amp: u128, num: u16, den: u16) -> u128
     requires { amp ≤ 65535 * unit }
     ensures result { result ≡ off amp num den }
@@ -22,7 +22,7 @@ fn off(amp: u128, num: u16, den: u16) -> u128
     (u128::from(num) * UNIT).abs_diff(amp * u128::from(den))
 }
 
-// The nearest fraction with a divisor, the greater one of two as near.
+// The nearest fraction with this divisor; of two equally near ones the greater.
 #[tactic(auto, using(crate::proofs::Rounding::nearest_num, crate::proofs::Rounding::greatest_num))]
 fn nearest_with(amp: u128, den: u16) -> Fraction
     requires { amp ≤ 65535 * unit }
@@ -39,7 +39,8 @@ fn nearest_with(amp: u128, den: u16) -> Fraction
     }
 }
 
-// The nearer one of the nearest fraction with a smaller divisor and the nearest with this one.
+// The nearer one of two fractions: the nearest with a smaller divisor, and the nearest with this
+// one.
 #[tactic(auto, using(crate::proofs::Searching::kept, crate::proofs::Searching::taken))]
 fn nearer(amp: u128, best: Fraction, den: u16) -> Fraction
     requires small { amp ≤ 65535 * unit }
@@ -69,11 +70,11 @@ fn nearest(amp: u128) -> Fraction
     best
 }
 
-/// The amplitude that a word tells in decibels, as the nearest fraction with a divisor from 1 to
-/// 1000 and a number up to 65,535: the one with the smallest divisor of those as near. A word is a
-/// sign or none, one to three digits, perhaps a point and one digit more, and `dB`; its amplitude
-/// is 10 to the power of a twentieth of it. None where it is no such word, or over +96.3 decibels.
-/// From -66.1 decibels down it is 0/1.
+/// The amplitude of a word in decibels, as the nearest fraction with a divisor from 1 to 1000 and a
+/// number up to 65,535: of several equally near ones the one with the smallest divisor. A word is
+/// an optional sign, one to three digits, optionally a point and one more digit, and `dB`. The
+/// amplitude of x decibels is 10^(x/20). None if the text is no such word, or is over +96.3
+/// decibels. From -66.1 decibels down it is 0/1.
 pub fn fraction_of(word: &[u8]) -> Option<Fraction>
     ensures none { (result ≡ None) ↔ (amplitude_of word.now ≡ None) }
     ensures found { IfSome result (λ f. MatchOption (amplitude_of word.now) ⊥

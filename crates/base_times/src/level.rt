@@ -1,4 +1,4 @@
-//! Levels in decibels, read.
+//! Reading levels in decibels.
 
 ghost use Rattle.std.specs.Prelude.{◌≡◌, ◌<◌, ◌≤◌, ◌^◌, length, IfSome};
 ghost use Rattle.std.specs.Option.{option_map};
@@ -8,14 +8,14 @@ ghost use Rattle.base_times.specs.Decibels.{level};
 use crate::word::short_number_of;
 use base_text::cut;
 
-// So many tenths of a decibel, above or below.
+// A number of tenths of a decibel, above or below 0.
 #[derive(Clone, Copy)]
 pub(crate) struct Level {
     pub(crate) below: bool,
     pub(crate) tenths: u32,
 }
 
-// The number that one to so many digits spell.
+// The number with these digits, from one to this many.
 fn few_digits_of(most: usize, text: &[u8]) -> Option<u32>
     requires { most ≤ 9 }
     ensures result { result ≡ few_digits most text.now }
@@ -28,7 +28,7 @@ fn few_digits_of(most: usize, text: &[u8]) -> Option<u32>
     short_number_of(text)
 }
 
-// One to three digits.
+// The number of one to three digits.
 fn whole_of(text: &[u8]) -> Option<u32>
     ensures result { result ≡ few_digits 3 text.now }
     ensures small { IfSome result (λ n. n < 1000) }
@@ -36,7 +36,7 @@ fn whole_of(text: &[u8]) -> Option<u32>
     few_digits_of(3, text)
 }
 
-// One digit.
+// The number of one digit.
 fn tenth_of(text: &[u8]) -> Option<u32>
     ensures result { result ≡ few_digits 1 text.now }
     ensures small { IfSome result (λ n. n < 10) }
@@ -44,7 +44,7 @@ fn tenth_of(text: &[u8]) -> Option<u32>
     few_digits_of(1, text)
 }
 
-// Tenths of a decibel.
+// The number of tenths of a decibel in a text.
 #[tactic(auto, unfolding(crate::specs::Decibels::tenths))]
 fn tenths_of(text: &[u8]) -> Option<u32>
     ensures result { result ≡ tenths text.now }
@@ -63,7 +63,7 @@ fn tenths_of(text: &[u8]) -> Option<u32>
     }
 }
 
-// Above or below, by so much.
+// The level above or below 0, from the text of its magnitude.
 fn level_by(below: bool, text: &[u8]) -> Option<Level>
     ensures result { result ≡ level_by below text.now }
     ensures small { IfSome result (λ l. l.tenths < 10000) }
@@ -72,7 +72,7 @@ fn level_by(below: bool, text: &[u8]) -> Option<Level>
     Some(Level { below, tenths })
 }
 
-// With a sign or with none.
+// The level of a text with or without a sign.
 #[tactic(auto, unfolding(crate::specs::Decibels::signed_level))]
 fn signed_level_of(text: &[u8]) -> Option<Level>
     ensures result { result ≡ signed_level text.now }
@@ -85,7 +85,7 @@ fn signed_level_of(text: &[u8]) -> Option<Level>
     }
 }
 
-// What stands before a `dB` that ends the word.
+// The text before a `dB` at the end of the word.
 fn before_db(text: &[u8]) -> Option<&[u8]>
     ensures { option_map (λ front. front.now) result ≡ before_db text.now }
 {
@@ -97,7 +97,7 @@ fn before_db(text: &[u8]) -> Option<&[u8]>
     }
 }
 
-// The level that a word tells.
+// The level of a word.
 #[tactic(auto, unfolding(crate::specs::Decibels::level))]
 pub(crate) fn level_of(word: &[u8]) -> Option<Level>
     ensures result { result ≡ level word.now }

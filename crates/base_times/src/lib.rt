@@ -1,4 +1,4 @@
-//! Times and decibels, as people write frames and gains.
+//! Times and decibels, read and written as text for frames and gains.
 //!
 //! ```rust
 //! use base_times::{Fraction, append_time, fraction_of, frames_of};
@@ -25,8 +25,8 @@
 //! }
 //! ```
 //!
-//! `specs/Printing.antt` says how times are printed, `specs/Times.antt` what a word tells of one;
-//! `specs/Decibels.antt` has the amplitude that a word tells, and `specs/Nearest.antt` the fraction
+//! `specs/Printing.antt` defines how times are printed, and `specs/Times.antt` the time of a word;
+//! `specs/Decibels.antt` defines the amplitude of a word, and `specs/Nearest.antt` the fraction
 //! nearest to it.
 #![tactic(auto)]
 

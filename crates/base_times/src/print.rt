@@ -1,4 +1,4 @@
-//! Times, printed.
+//! Printing times.
 
 ghost use Rattle.std.specs.Prelude.{◌≡◌, ◌<◌, ◌≤◌, ◌+◌, ◌^◌, ◌++◌, OnOk, OnErr};
 ghost use Rattle.std.specs.Fmt.{decimal};
@@ -15,7 +15,7 @@ fn digit(number: u64) -> u8
     b'0' + number as u8
 }
 
-// `:MM:SS.mmm`, of milliseconds.
+// The text `:MM:SS.mmm` of milliseconds.
 fn below_hours(ms: u64) -> [u8; 10]
     ensures { result ≡ below_hours ms }
 {
@@ -35,7 +35,7 @@ fn below_hours(ms: u64) -> [u8; 10]
     ]
 }
 
-// Writes milliseconds as `H:MM:SS.mmm`. Where memory is refused, `text` is as it was.
+// Appends milliseconds as `H:MM:SS.mmm`. If an allocation fails, `text` is unchanged.
 fn append_clock<A: Allocator>(text: &mut Vec<u8, A>, ms: u64) -> Result<(), AllocError>
     ensures ok { OnOk result (text.new.items ≡ text.old.items ++ clock_text ms) }
     ensures err { OnErr result (text.new.items ≡ text.old.items) }
@@ -49,8 +49,8 @@ fn append_clock<A: Allocator>(text: &mut Vec<u8, A>, ms: u64) -> Result<(), Allo
     added
 }
 
-/// Writes how long so many frames last at a rate, as `H:MM:SS.mmm`: milliseconds, rounded down.
-/// Where memory is refused, `text` is as it was.
+/// Appends the duration of this many frames at a rate, as `H:MM:SS.mmm`: milliseconds, rounded
+/// down. If an allocation fails, `text` is unchanged.
 pub fn append_time<A: Allocator>(
     text: &mut Vec<u8, A>,
     rate: u32,

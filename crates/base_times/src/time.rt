@@ -1,4 +1,4 @@
-//! Times, read.
+//! Reading times.
 
 ghost use Rattle.std.specs.Prelude.{◌≡◌, ◌≤◌, ◌<◌, ◌^◌, ◌*◌, IfSome};
 ghost use Rattle.std.specs.Option.{option_map};
@@ -9,7 +9,7 @@ ghost use Rattle.base_times.specs.Steps.{small_number, IsUnder};
 use crate::word::{short_number_of, small_number_of};
 use base_text::cut;
 
-// So many of the parts of which so many make a second.
+// A time: a count of parts, and the number of parts per second.
 #[derive(Clone, Copy)]
 pub(crate) struct Time {
     count: u128,
@@ -28,7 +28,7 @@ fn sixty_of(text: &[u8]) -> Option<u32>
     if number < 60 { Some(number) } else { None }
 }
 
-// What stands behind a point.
+// The parts of a second after a point.
 fn parts_of_second_of(text: &[u8]) -> Option<Time>
     ensures result { result ≡ parts_of_second text.now }
     ensures under { IfSome result (IsUnder 1) }
@@ -43,7 +43,7 @@ fn parts_of_second_of(text: &[u8]) -> Option<Time>
     })
 }
 
-// So many seconds later.
+// A time this many seconds later.
 fn later(seconds: u64, time: Time) -> Time
     requires seconds { seconds < 2 ^ 45 }
     requires under { IsUnder (2 ^ 33) time }
@@ -55,7 +55,7 @@ fn later(seconds: u64, time: Time) -> Time
     }
 }
 
-// Whole seconds, and perhaps a point and parts of a second.
+// The time of whole seconds, optionally with a point and parts of a second.
 #[tactic(auto, unfolding(crate::specs::Times::seconds))]
 fn seconds_of(text: &[u8]) -> Option<Time>
     ensures result { result ≡ seconds small_number text.now }
@@ -77,7 +77,7 @@ fn seconds_of(text: &[u8]) -> Option<Time>
     }
 }
 
-// The same where the whole seconds are two digits, under 60.
+// The time of whole seconds in two digits, under 60, optionally with a point and parts of a second.
 #[tactic(auto, unfolding(crate::specs::Times::seconds))]
 fn clock_seconds_of(text: &[u8]) -> Option<Time>
     ensures result { result ≡ seconds sixty text.now }
@@ -99,7 +99,7 @@ fn clock_seconds_of(text: &[u8]) -> Option<Time>
     }
 }
 
-// Hours, minutes and seconds.
+// The time of hours, minutes and seconds.
 #[tactic(auto, unfolding(crate::specs::Times::clock))]
 fn clock_of(text: &[u8]) -> Option<Time>
     ensures result { result ≡ clock small_number text.now }
@@ -113,7 +113,7 @@ fn clock_of(text: &[u8]) -> Option<Time>
     Some(later(u64::from(hours) * 3600 + u64::from(minutes) * 60, time))
 }
 
-// What stands before an `s` that ends the word and is its only one.
+// The text before an `s` at the end of the word, if it is the only one.
 fn before_s(text: &[u8]) -> Option<&[u8]>
     ensures { option_map (λ front. front.now) result ≡ before_s text.now }
 {
@@ -121,7 +121,7 @@ fn before_s(text: &[u8]) -> Option<&[u8]>
     if rest.is_empty() { Some(front) } else { None }
 }
 
-// The time that a word tells, where its hours or its whole seconds are under 2^32.
+// The time of a word, if its hours or its whole seconds are under 2^32.
 #[tactic(auto, unfolding(crate::specs::Times::form))]
 fn time_of(word: &[u8]) -> Option<Time>
     ensures result { result ≡ form small_number word.now }
@@ -133,7 +133,7 @@ fn time_of(word: &[u8]) -> Option<Time>
     }
 }
 
-// The frame nearest to a time, the later one of two as near, where it is under 2^32.
+// The frame nearest to a time, if it is under 2^32; of two equally near ones the later.
 fn frame_of(rate: u32, time: Time) -> Option<u32>
     requires { IsUnder (2 ^ 45) time }
     ensures { result ≡ frame rate time }
@@ -147,10 +147,10 @@ fn frame_of(rate: u32, time: Time) -> Option<u32>
     }
 }
 
-/// The frame that a word comes to at a rate: `H:MM:SS` or `H:MM:SS.f`, with one digit or more, two,
-/// two and one to nine, the minutes and the seconds under 60; or `Ss` or `S.fs`, with one digit or
-/// more and one to nine. It is the nearest frame, the later one of two as near. None where the word
-/// is no time, or the frame is over 4,294,967,295.
+/// The frame of a word at a rate. A word is `H:MM:SS` or `H:MM:SS.f`, with one digit or more, two,
+/// two, and one to nine digits, the minutes and the seconds under 60; or `Ss` or `S.fs`, with one
+/// digit or more, and one to nine. The result is the nearest frame, and of two equally near ones
+/// the later. None if the word is no time, or if the frame is over 4,294,967,295.
 #[tactic(auto, using(crate::proofs::Capping::read_so))]
 pub fn frames_of(rate: u32, word: &[u8]) -> Option<u32>
     requires { 1 ≤ rate }

@@ -7,7 +7,7 @@ ghost use Rattle.base_times.specs.Steps.{small_number};
 use base_text::are_digits;
 use std::str;
 
-// The number under 2^32 that digits spell, however many there are.
+// The number under 2^32 with these digits, of any count.
 #[tactic(auto, using(crate::proofs::Numbers::utf8, crate::proofs::Numbers::parsed))]
 pub(crate) fn small_number_of(text: &[u8]) -> Option<u32>
     ensures { result ≡ small_number text.now }
@@ -21,7 +21,7 @@ pub(crate) fn small_number_of(text: &[u8]) -> Option<u32>
     digits.parse::<u32>().ok()
 }
 
-// The number that at most nine digits spell.
+// The number with these digits, of which there are at most nine.
 #[tactic(auto, using(crate::proofs::Numbers::short, crate::proofs::Numbers::short_value))]
 pub(crate) fn short_number_of(text: &[u8]) -> Option<u32>
     requires { length text.now ≤ 9 }

@@ -1,5 +1,5 @@
 -- Lemmas for the laws of a register: the greater of two is a join. It is commutative, associative
--- and idempotent, up to what the order does not tell apart.
+-- and idempotent, up to values that are tied in the order.
 use Rattle.std.specs.Prelude.{◌≡◌, cond, IsTrue, refl}
 use Rattle.std.specs.Ordering.{ordering_reverse, is_lt, is_eq, eq_by_cmp}
 use Rattle.std.specs.declared.cmp.Ordering.{Ordering}
@@ -16,7 +16,7 @@ written_total {T} o = then_total (on_total (λ (w : Written T). w.writer) stamp_
     (on_total (λ (w : Written T). w.value) o)
 
 module _ {K : Type 0} {R : K → K → Ordering} (o : IsTotalOrder R) where
-  -- the greater, by what the order says
+  -- the greater one, by the result of the comparison
   of_less : (a b : K) → R a b ≡ Less → greater R a b ≡ b
   of_less a b e = ap (λ (r : Ordering). cond (is_lt r) b a) e
 
@@ -26,7 +26,7 @@ module _ {K : Type 0} {R : K → K → Ordering} (o : IsTotalOrder R) where
   of_greater : (a b : K) → R a b ≡ Greater → greater R a b ≡ a
   of_greater a b e = ap (λ (r : Ordering). cond (is_lt r) b a) e
 
-  -- it turns with its arguments
+  -- swapping the arguments reverses the comparison
   turned : (a b : K) (r : Ordering) → R a b ≡ r → R b a ≡ ordering_reverse r
   turned a b r e = o.antisymm b a ∙ ap ordering_reverse e
 

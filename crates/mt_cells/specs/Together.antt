@@ -1,5 +1,5 @@
--- Lemmas for the laws of a presence: marks together are a join, and marks that hold the same stamps
--- are equal.
+-- Lemmas for the laws of a presence: uniting tags and removals is a join, and presences with the
+-- same stamps are equal.
 use Rattle.std.specs.Prelude.{◌≡◌, Bool, true, false, ◌&&◌, ◌||◌, IsTrue, refl}
 use Rattle.std.specs.Cmp.{IsEquivalence, decided}
 use Rattle.std.specs.FinSet as set
@@ -19,7 +19,7 @@ pub contains-union : (s t : Stamps) (stamp : Stamp) → set.contains (set.union 
     ≡ (set.contains s stamp || set.contains t stamp)
 contains-union s t stamp = set.contains-union stamp_cmp_total s t stamp
 
--- or, in any order and grouping and with repeats
+-- disjunction is commutative, associative and idempotent
 pub either_way : (a b : Bool) → (a || b) ≡ (b || a)
 either_way true true = refl
 either_way true false = refl
@@ -34,7 +34,7 @@ repeated : (a : Bool) → (a || a) ≡ a
 repeated true = refl
 repeated false = refl
 
--- both parts of a test that is passed
+-- both operands of a conjunction that is true
 pub first : (a b : Bool) → (a && b) ≡ true → a ≡ true
 first true b passes = refl
 first false b passes = passes
@@ -93,7 +93,7 @@ itself s = let inside = is_within s s (λ stamp has. has) in both (set.is_subset
 same_record : (a b : Presence) → a.tags ≡ b.tags → a.removed ≡ b.removed → a ≡ b
 same_record a b tags removed = λ i. record { tags = tags i; removed = removed i }
 
--- marks with the same stamps are equal, and only these
+-- presences with the same stamps are equal
 pub marks_are : (a b : Presence) → IsTrue (same_marks a b) → a ≡ b
 marks_are a b same =
     same_record a b

@@ -1,4 +1,4 @@
-//! Why a cell could not grow.
+//! The error of a cell.
 
 ghost use Rattle.std.specs.Prelude.{◌≡◌, alloc_error};
 ghost use Rattle.mt_cells.specs.declared.fault.CellFault.TheVariants.{Memory};
@@ -14,7 +14,7 @@ pub enum CellFault {
 }
 
 impl CellFault {
-    /// The refusal's number: 0.
+    /// The error's number: 0.
     pub fn number(&self) -> u8
         ensures { result ≡ 0 }
     {

@@ -10,14 +10,14 @@ use std::alloc::Allocator;
 /// A value that replicas keep and join: a join semilattice (INRIA RR-7506, state-based
 /// convergence). The laws hold up to `==`.
 pub trait Join: Eq {
-    /// What two values are together.
+    /// The join of two values.
     ghost joined: { Self → Self → Self };
 
-    /// Whether joining may take memory.
+    /// Whether joining may allocate memory.
     ghost takes_memory: { Bool };
 
-    /// Joins another value to this one. Refused only as `Memory` (0), and never where joining takes
-    /// none; the value then lies between what it was and what both are together.
+    /// Joins another value to this one. Fails only with `Memory` (0), and never if joining
+    /// allocates none; the value is then between its old value and the join of both.
     fn join(&mut self, other: Self) -> Result<(), CellFault>
         ensures joined { OnOk result (self.new ≡ joined self.old other) }
         ensures refused { OnErr result (takes_memory ≡ true) }
@@ -36,9 +36,9 @@ pub trait Join: Eq {
         → IsTrue (Self.eq (joined a c) (joined b d)) };
 }
 
-/// All values together, joined to the first from left to right. Which value that is depends on
-/// which values they are alone: not on their order, and not on repeats. Refused only as `Memory`
-/// (0), and never where joining takes none.
+/// The join of all values, from left to right, beginning with the first. The result depends only on
+/// which values they are: not on their order, and not on repetitions. Fails only with `Memory` (0),
+/// and never if joining allocates none.
 pub fn join_all<C: Join + Drop, A: Allocator>(first: C, others: Vec<C, A>) -> Result<C, CellFault>
     ensures value { IfOk result (λ all. all ≡ folds.join_all C.joined first others.items) }
     ensures any_order { IfOk result (λ all. (x : C) (xs : List C)

@@ -1,8 +1,8 @@
-//! What replicas keep of one item and join in any order: the laws of joining, the last-writer
-//! register, and presence.
+//! The state of one item that replicas keep and join in any order: the laws of joining, the
+//! last-writer-wins register, and presence.
 //!
-//! A `Register` is one field of an item, and holds the write of the greatest stamp. A `Presence`
-//! tells whether the item is there: while one of its tags is not removed.
+//! A `Register` is one field of an item, and holds the write with the greatest stamp. A `Presence`
+//! determines whether the item is present: it is while one of its tags is not removed.
 //!
 //! ```rust
 //! use mt_cells::{Join, Presence, Register};
@@ -11,11 +11,11 @@
 //!
 //! fn joins_what_two_replicas_keep(rt: HostRuntime) -> Result<(), Fail> {
 //!     let (added, again) = (Stamp::new(1, Replica(10), 1)?, Stamp::new(2, Replica(11), 1)?);
-//!     // both have moved a marker: the write of the greater stamp stays
+//!     // both have moved a marker: the write with the greater stamp wins
 //!     let mut position = Register::new(Stamp::new(3, Replica(10), 2)?, 480);
 //!     position.join(Register::new(Stamp::new(3, Replica(11), 2)?, 960))?;
 //!     assert_eq!(rt; *position.get(), 960);
-//!     // one has removed it, and the other has restored it, not knowing of the removal
+//!     // one has removed it, and the other has restored it concurrently
 //!     let mut presence = Presence::new(rt.alloc());
 //!     presence.add_tag(added)?;
 //!     presence.remove_tag(added)?;

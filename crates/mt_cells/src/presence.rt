@@ -15,10 +15,10 @@ use mt_stamp::Stamp;
 use std::alloc::{Allocator, Global};
 use std::marker::Model;
 
-/// Whether one item is there: the stamps that tag it, and those that were removed. It is present
-/// while a tag is not removed, so a removal takes away the tags that it names and no other (INRIA
-/// RR-7506, section 3.3.5: Observed-Remove Set). Marks may come in any order, a removal before its
-/// tag too. The tags take memory from the third one on, and so do the removals.
+/// The presence of one item: the stamps that tag it, and the removed ones. The item is present
+/// while one of its tags is not removed, so a removal removes only the tags that it names (INRIA
+/// RR-7506, section 3.3.5: Observed-Remove Set). Tags and removals may come in any order, even a
+/// removal before its tag. The tags allocate memory from the third one on, and so do the removals.
 #[derive(Drop)]
 pub struct Presence<A: Allocator = Global> {
     alloc: A,
@@ -37,7 +37,7 @@ impl<A: Allocator> Model for Presence<A> {
 }
 
 impl<A: Allocator> Presence<A> {
-    /// The presence of an item without marks: it is not there. Takes no memory.
+    /// The presence of an item without tags and removals: it is not present. Allocates no memory.
     pub fn new(alloc: A) -> Self
         ensures { result ≡ unmarked }
     {
@@ -48,8 +48,8 @@ impl<A: Allocator> Presence<A> {
         }
     }
 
-    /// Tags the item with a stamp. Refused only as `Memory` (0), where an allocation failed; the
-    /// presence is then unchanged.
+    /// Adds a stamp to the tags of the item. Fails only with `Memory` (0), when an allocation
+    /// fails; the presence is then unchanged.
     pub fn add_tag(&mut self, stamp: Stamp) -> Result<(), CellFault>
     where
         A: Clone,
@@ -60,8 +60,8 @@ impl<A: Allocator> Presence<A> {
         self.tags.insert(&self.alloc, stamp)
     }
 
-    /// Removes the tag of a stamp, which may come later. Refused only as `Memory` (0), where an
-    /// allocation failed; the presence is then unchanged.
+    /// Removes the tag of a stamp, which may be added later. Fails only with `Memory` (0), when an
+    /// allocation fails; the presence is then unchanged.
     pub fn remove_tag(&mut self, stamp: Stamp) -> Result<(), CellFault>
     where
         A: Clone,
@@ -72,22 +72,22 @@ impl<A: Allocator> Presence<A> {
         self.removed.insert(&self.alloc, stamp)
     }
 
-    /// Whether a stamp tags the item, removed or not. Takes no memory.
+    /// Whether a stamp tags the item, whether removed or not. Allocates no memory.
     pub fn has_tag(&self, stamp: Stamp) -> bool
         ensures { result ≡ set.contains self.now.tags stamp }
     {
         self.tags.contains(&stamp)
     }
 
-    /// Whether the item is there: whether a tag is live. Takes no memory.
+    /// Whether the item is present, that is, whether a tag is live. Allocates no memory.
     pub fn is_present(&self) -> bool
         ensures { IsTrue result ↔ IsPresent self.now }
     {
         !self.tags.is_subset(&self.removed)
     }
 
-    /// The live tags, each once, from the least stamp to the greatest. Refused only as `Memory`
-    /// (0), where an allocation failed.
+    /// The live tags, each once, in rising order. Fails only with `Memory` (0), when an allocation
+    /// fails.
     pub fn live_tags(&self) -> Result<Vec<Stamp, A>, CellFault>
     where
         A: Clone,
@@ -98,7 +98,7 @@ impl<A: Allocator> Presence<A> {
         self.tags.difference(&self.alloc, &self.removed)
     }
 
-    /// A copy. Refused only as `Memory` (0), where an allocation failed.
+    /// A copy. Fails only with `Memory` (0), when an allocation fails.
     pub fn try_clone(&self) -> Result<Self, CellFault>
     where
         A: Clone,

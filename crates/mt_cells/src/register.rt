@@ -1,4 +1,4 @@
-//! The last-writer register.
+//! The last-writer-wins register.
 
 ghost use Rattle.std.specs.Prelude.{◌≡◌};
 ghost use Rattle.mt_cells.specs.Pairs.{written_cmp};
@@ -9,7 +9,7 @@ use mt_stamp::Stamp;
 use std::cmp::Ordering;
 use std::marker::Model;
 
-/// A field that many may write: it holds the greatest pair of stamp and value that was joined to it
+/// A last-writer-wins register: it holds the greatest pair of stamp and value that was joined to it
 /// (INRIA RR-7506, section 3.2.1).
 #[derive(Drop)]
 pub struct Register<T: Ord> {
@@ -47,14 +47,14 @@ impl<T: Ord> Register<T> {
         &self.value
     }
 
-    /// The value alone.
+    /// The value, with the stamp dropped.
     pub fn into_value(self) -> T
         ensures { result ≡ self.value }
     {
         self.value
     }
 
-    // By stamp, and then by value, which is looked at only where the stamps are one.
+    // Compares by stamp, and then by value, which is read only if the stamps are equal.
     fn compare(&self, other: &Self) -> Ordering
         ensures { result ≡ written_cmp T.cmp self.now other.now }
     {

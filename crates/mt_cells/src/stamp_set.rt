@@ -15,7 +15,7 @@ use std::cmp::Ordering;
 use std::collections::BTreeSet;
 use std::marker::Model;
 
-/// Where the stamps of a set are: up to two take no memory.
+/// The storage of a set's stamps: up to two need no allocation.
 #[derive(Drop)]
 enum Inline<A: Allocator> {
     Nothing,
@@ -24,7 +24,7 @@ enum Inline<A: Allocator> {
     Many(BTreeSet<Stamp, A>),
 }
 
-/// A set of stamps, which takes memory from its third stamp on.
+/// A set of stamps, which allocates memory from its third stamp on.
 #[derive(Drop)]
 pub(crate) struct StampSet<A: Allocator> {
     stamps: Inline<A>,
@@ -59,7 +59,7 @@ fn three<A: Allocator + Clone>(
     Ok(stamps)
 }
 
-// Whether each of these stamps is among the others.
+// Whether each of these stamps is in the other set.
 fn are_in<A: Allocator>(stamps: &BTreeSet<Stamp, A>, others: &StampSet<A>) -> bool
     ensures { result ≡ list_all (set.contains others.now) stamps.now.keys }
 {
@@ -104,7 +104,7 @@ impl<A: Allocator> StampSet<A> {
         }
     }
 
-    /// Puts a stamp in. After a refusal the set is unchanged.
+    /// Inserts a stamp. After an error the set is unchanged.
     pub(crate) fn insert(&mut self, alloc: &A, stamp: Stamp) -> Result<(), CellFault>
     where
         A: Clone,
@@ -132,7 +132,7 @@ impl<A: Allocator> StampSet<A> {
         Ok(())
     }
 
-    /// Puts another set's stamps in. After a refusal some of them are in.
+    /// Inserts the stamps of another set. After an error some of them may be inserted.
     pub(crate) fn append(&mut self, alloc: &A, other: Self) -> Result<(), CellFault>
     where
         A: Clone,
@@ -152,7 +152,7 @@ impl<A: Allocator> StampSet<A> {
         }
     }
 
-    // The same of a set that stands in memory.
+    // Inserts the stamps of a set in allocated memory.
     fn append_many(&mut self, others: BTreeSet<Stamp, A>) -> Result<(), CellFault>
     where
         A: Clone,
@@ -178,7 +178,7 @@ impl<A: Allocator> StampSet<A> {
         Ok(())
     }
 
-    /// The stamps that are not in the other set, in their order.
+    /// The stamps that are not in the other set, in rising order.
     pub(crate) fn difference(&self, alloc: &A, other: &Self) -> Result<Vec<Stamp, A>, CellFault>
     where
         A: Clone,
@@ -190,8 +190,8 @@ impl<A: Allocator> StampSet<A> {
         match &self.stamps {
             Inline::Nothing => Ok(Vec::new(alloc.clone()?)),
             Inline::One(one) => left_of_one(alloc, one, other),
-            // A set never keeps two equal stamps; no invariant says so, and so they would be given
-            // once.
+            // A set never has two equal stamps, but no invariant states it, and so they are
+            // returned once.
             Inline::Two(one, another) => match one.cmp(another) {
                 Ordering::Less => left_of_two(alloc, one, another, other),
                 Ordering::Equal => left_of_one(alloc, one, other),
@@ -216,7 +216,7 @@ impl<A: Allocator> StampSet<A> {
     }
 }
 
-// A stamp where it is not in the other set.
+// A stamp, if it is not in the other set.
 fn left_of_one<A: Allocator + Clone>(
     alloc: &A,
     one: &Stamp,
@@ -232,7 +232,7 @@ fn left_of_one<A: Allocator + Clone>(
     Ok(left)
 }
 
-// Those of two stamps that are not in the other set, one after the other.
+// The ones of two stamps that are not in the other set, in this order.
 fn left_of_two<A: Allocator + Clone>(
     alloc: &A,
     one: &Stamp,
@@ -249,7 +249,7 @@ fn left_of_two<A: Allocator + Clone>(
     Ok(left)
 }
 
-// The stamps of a set in memory that are not in the other one, in their order.
+// The stamps of a set in allocated memory that are not in the other one, in rising order.
 fn left_of_many<A: Allocator + Clone>(
     alloc: &A,
     stamps: &BTreeSet<Stamp, A>,

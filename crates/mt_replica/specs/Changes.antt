@@ -1,4 +1,4 @@
--- What a change in memory asks for, and which change an act is that of.
+-- The edit of a change in memory, and the edit that an act comes from.
 use Rattle.mt_op.specs.OpValue.{Body}
 use Rattle.mt_op.specs.OpValue as act
 use Rattle.mt_replica.specs.declared.change.Change.{Change}
@@ -23,7 +23,7 @@ edit_of (change.Retitle item title) = Retitle item title
 edit_of (change.SetFade clip fade_in fade_out) = SetFade clip fade_in fade_out
 edit_of (change.SetMarkerLength marker len) = SetMarkerLength marker len
 
--- the change that asks for what an act does: a Remove lists its tags by itself
+-- the edit that makes an act: a Remove does not name its tags
 abbrev pub same_edit : Body → Edit
 same_edit (act.AddTrack after title) = AddTrack after title
 same_edit (act.MoveTrack track after) = MoveTrack track after

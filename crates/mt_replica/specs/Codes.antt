@@ -1,4 +1,4 @@
--- By what values are told apart, where a contract compares them.
+-- The codes by which contracts compare values.
 use Rattle.std.specs.Prelude.{ℕ, Bool, List, Option, refl}
 use Rattle.std.specs.Coded.{Coded, code_by, coded×, coded_ℕ, coded_bool, coded_list, coded_option}
 use Rattle.std.specs.FinMap as map

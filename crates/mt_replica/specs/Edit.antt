@@ -1,11 +1,11 @@
--- What an editor is asked for, without where its texts lie in memory.
+-- What an editor can be requested to do, without the place of its texts in memory.
 use Rattle.std.specs.Prelude.{ℕ, Bool, List, Option}
 use Rattle.mt_stamp.specs.StampOrder.{Stamp}
 use Rattle.mt_op.specs.Gain.{Gain}
 use Rattle.mt_op.specs.declared.digest.Digest.{Digest}
 
--- An edit (profile): what an act says, but a Remove lists no tags, and `after` names a track, none
--- being the head of the track order. Positions, offsets and lengths are in frames.
+-- An edit (profile): the parts of an act, except that a Remove lists no tags, and `after` names a
+-- track, where none is the head of the track order. Positions, offsets and lengths are in frames.
 pub data Edit : Type 0 where
   AddTrack : (after : Option Stamp) (title : List ℕ) → Edit
   MoveTrack : (track : Stamp) (after : Option Stamp) → Edit

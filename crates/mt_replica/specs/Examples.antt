@@ -1,5 +1,6 @@
--- What an edit makes of a set, worked out: each refusal and which of two comes first; the stamp,
--- the tags and the place of what is made; and how many cells each operation joins.
+-- Worked examples of what an edit makes of a set: each refusal, and which of two comes first; the
+-- stamp, the tags and the place of the operation made; and the number of cells that each operation
+-- joins.
 use Rattle.std.specs.Prelude.{◌≡◌, ℕ, ◌^◌, ◌-◌, true, false, List, [], ◌∷◌, None, Some, Result, Ok}
 use Rattle.std.specs.Prelude.{Err, map, refl, codes}
 use Rattle.mt_stamp.specs.declared.name.Replica.{Replica}
@@ -24,7 +25,7 @@ use Rattle.mt_replica.specs.declared.fault.EditorFault.TheVariants.{Failed, Zero
 use Rattle.mt_replica.specs.declared.fault.EditorFault.TheVariants.{NoSuchItem, Absent, TooManyTags}
 use Rattle.mt_replica.specs.declared.fault.EditorFault.TheVariants.{ClockFull, SeqFull}
 
--- the editor that edits is replica 11; the operations of others are mostly 10's
+-- replica 11 edits; the operations of others are mostly replica 10's
 abbrev home : Replica
 home = record { 0 = 11 }
 
@@ -44,7 +45,7 @@ marker = by 1 10 1
 abbrev gone : List Op
 gone = news ∷ remove_by 2 10 2 (marker ∷ []) ∷ []
 
--- ---- what is refused
+-- ---- the refusals
 
 pub no_such_item : made_of (news ∷ []) (Retitle nowhere (codes "Late")) ≡ Err (NoSuchItem nowhere)
 no_such_item = refl
@@ -55,12 +56,12 @@ no_such_clip = refl
 pub absent : made_of gone (Retitle marker (codes "Late")) ≡ Err (Absent marker)
 absent = refl
 
--- an operation that waits adds nothing that could be named
+-- an operation that waits adds no item that an edit could name
 pub waiting_clip : made_of (clip_on (by 1 10 1) ∷ []) (TrimClip (by 2 11 1) 0 7)
     ≡ Err (NoSuchItem (by 2 11 1))
 waiting_clip = refl
 
--- a Restore asks for an item, which may be removed
+-- a Restore needs an item, which may be removed
 pub restored : made_of gone (Restore marker) ≡ op_by 3 11 1 (act.Restore marker)
 restored = refl
 
@@ -79,7 +80,7 @@ clock_full = refl
 pub seq_full : made_of (at_last_number ∷ []) (AddMarker 0 (codes "News")) ≡ Err SeqFull
 seq_full = refl
 
--- the greatest number of another replica stops nobody else
+-- the greatest number of another replica limits no other one
 pub number_of_another : made (at_last_number ∷ []) (record { 0 = 10 }) (AddMarker 0 (codes "News"))
     ≡ op_by 4 10 1 (act.AddMarker 0 (codes "News"))
 number_of_another = refl
@@ -121,7 +122,7 @@ pub length_of_a_marker : made_of (news ∷ []) (SetMarkerLength marker 0)
     ≡ op_by 2 11 1 (act.SetMarkerLength marker 0)
 length_of_a_marker = refl
 
--- by fields: what is wrong with the first comes first, be it 21 or 22
+-- by fields: the refusal of the first field comes first, whether 21 or 22
 abbrev p_removed : List Op
 p_removed = remove_by 4 10 4 (by 1 10 1 ∷ []) ∷ p_q
 
@@ -169,8 +170,8 @@ pub absent_before_number : made_of (at_last_number ∷ gone) (Retitle marker (co
     ≡ Err (Absent marker)
 absent_before_number = refl
 
--- 21 and 22 before 25, and 25 before 23 and 24: whatever the clocks and the numbers are, as soon as
--- there is no refusal of the item
+-- 21 and 22 before 25, and 25 before 23 and 24: for all clocks and numbers, as soon as there is no
+-- refusal of the item
 pub item_before_tags : (ops : List Op) (name : Replica) (item : Stamp) (fault : EditorFault)
     → names_refused (ready_ops ops) true (need_of Item item ∷ []) ≡ Some fault
     → refused ops name (Remove item) ≡ Some fault
@@ -187,14 +188,14 @@ pub clock_before_number : made_of (at_last_clock ∷ at_last_number ∷ []) (Add
     ≡ Err ClockFull
 clock_before_number = refl
 
--- ---- the stamp that is made
+-- ---- the stamp of the operation made
 
 pub first_stamp : made_of [] (AddMarker 480 (codes "News"))
     ≡ op_by 1 11 1 (act.AddMarker 480 (codes "News"))
 first_stamp = refl
 
--- the clock passes every clock, that of an operation that waits too; the number is the next one of
--- the replica
+-- the clock is greater than every clock, even that of an operation that waits; the number is the
+-- next one of the replica
 pub next_clock : made_of (news ∷ late ∷ []) (MoveMarker marker 7)
     ≡ op_by 3 11 2 (act.MoveMarker marker 7)
 next_clock = refl
@@ -207,7 +208,7 @@ pub next_number : made_of (record { stamp = by 2 11 5; act = act.AddMarker 0 (co
     ∷ news ∷ []) (Retitle marker (codes "Late")) ≡ op_by 3 11 6 (act.Retitle marker (codes "Late"))
 next_number = refl
 
--- ---- the tags that a Remove lists: those that are live, rising
+-- ---- the tags that a Remove lists: the live ones, in rising order
 
 pub removes_its_tag : made_of (news ∷ []) (Remove marker)
     ≡ op_by 2 11 1 (act.Remove marker (marker ∷ []))
@@ -221,7 +222,7 @@ pub removes_live_tags_alone : made_of (restore_by 3 11 1 ∷ gone) (Remove marke
     ≡ op_by 4 11 2 (act.Remove marker (by 3 11 1 ∷ []))
 removes_live_tags_alone = refl
 
--- ---- the place that a track is put after: the one that the other track has now
+-- ---- the place that a track is put after: the other track's current place
 
 abbrev p_moved : List Op
 p_moved = moves 4 10 4 (by 1 10 1) (Some (by 2 10 2)) ∷ p_q_r
@@ -242,13 +243,13 @@ pub moved_after_its_last_place : made_of p_moved (MoveTrack (by 3 10 3) (Some (b
     ≡ op_by 5 11 1 (act.MoveTrack (by 3 10 3) (Some (by 4 10 4)))
 moved_after_its_last_place = refl
 
--- a move that waits gives no place
+-- a move that waits changes no place
 pub after_what_waits : made_of (moves 4 10 4 (by 1 10 1) (Some nowhere) ∷ p_q_r)
     (AddTrack (Some (by 1 10 1)) (codes "s")) ≡ op_by 5 11 1
     (act.AddTrack (Some (by 1 10 1)) (codes "s"))
 after_what_waits = refl
 
--- ---- what else is made says what was asked for
+-- ---- the other operations have the parts of the edit
 
 pub other_changes : map (made_of p_q)
     (AddClip none (by 1 10 1) 1 2 3 ∷ MoveClip (by 2 11 1) (by 2 10 2) 5 ∷ TrimClip (by 2 11 1) 6 7
@@ -259,7 +260,7 @@ pub other_changes : map (made_of p_q)
         (act.SetGain (by 2 11 1) unchanged) ∷ op_by 3 11 2 (act.SetMute (by 1 10 1) true) ∷ []
 other_changes = refl
 
--- ---- what becomes ready by a take: of a log that has the Retitle alone, and then the marker too
+-- ---- what becomes ready by a take: in a log that has only the Retitle, and then the marker too
 
 pub becomes_ready : (log : LogMap) → operations log ≡ late ∷ [] → operations (with_op log news)
     ≡ news ∷ late ∷ [] → newly_ready_stamps log news ≡ by 1 10 1 ∷ by 2 11 1 ∷ []
@@ -269,7 +270,7 @@ pub nothing_becomes_ready : (log : LogMap) → operations log ≡ [] → operati
     ≡ late ∷ [] → newly_ready_stamps log late ≡ []
 nothing_becomes_ready log was is = rw (was, is) refl
 
--- ---- how many cells are joined
+-- ---- the number of cells joined
 
 abbrev joins : Body → ℕ
 joins a = joins_of (record { stamp = by 5 11 5; act = a })
@@ -292,7 +293,7 @@ pub joins_of_tags : map joins (act.Restore marker ∷ act.Remove marker (marker 
     ∷ act.Remove marker (marker ∷ nowhere ∷ []) ∷ []) ≡ 1 ∷ 1 ∷ 2 ∷ []
 joins_of_tags = refl
 
--- of all that became ready, and of nothing that waits
+-- of all operations that became ready, and of none that waits
 pub joins_of_both : (log : LogMap) → operations log ≡ late ∷ [] → operations (with_op log news)
     ≡ news ∷ late ∷ [] → joins_by (Some log) news ≡ 5
 joins_of_both log was is = rw (was, is) refl

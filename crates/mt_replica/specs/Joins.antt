@@ -1,11 +1,11 @@
--- How many cells of items an operation joins, and how they are counted.
+-- The number of cells of items that an operation joins, and how it is counted.
 use Rattle.std.specs.Prelude.{ℕ, ◌+◌, length, if◌then◌else◌}
 use Rattle.std.specs.Io.Iter.{u64_saturate}
 use Rattle.mt_op.specs.OpValue.{Body, Remove, Restore, Op}
 use Rattle.mt_op.specs.Needs.{adds_item}
 use Rattle.mt_op.specs.Writes.{writes}
 
--- how many tags an act adds or lists as removed
+-- the number of tags that an act adds or lists as removed
 abbrev pub tags_joined : Body → ℕ
 tags_joined (Remove item tags) = length tags
 tags_joined (Restore item) = 1
@@ -16,6 +16,6 @@ tags_joined act = if adds_item act then 1 else 0
 abbrev pub joins_of : Op → ℕ
 joins_of o = length (writes o.stamp o.act) + tags_joined o.act
 
--- a count of joins with more, which stands still at the greatest number of 64 bits
+-- a count of joins after more, which stays at the greatest number of 64 bits
 abbrev pub raised : ℕ → ℕ → ℕ
 raised joins more = u64_saturate (joins + more)

@@ -1,4 +1,4 @@
--- What holds of every operation that an edit makes.
+-- The law of every operation that an edit makes.
 use Rattle.std.specs.Prelude.{◌≡◌, ℕ, ◌+◌, ◌<◌, true, None, Ok, IsTrue}
 use Rattle.std.specs.List.{AllByRecursion, list_any, sum_by}
 use Rattle.std.specs.FinMap as map
@@ -13,11 +13,11 @@ use Rattle.mt_replica.specs.Edit.{Edit}
 use Rattle.mt_replica.specs.Made.{made}
 use Rattle.mt_replica.specs.EditorValue.{with_op, is_ready_in}
 
--- An operation is a replica's next one of a log: it is the replica's, its number passes every
--- number of the replica in the log, and its clock every clock, so the log has nothing under its
--- dot. It names older ones, and ready operations of the log meet its needs. With it the log has it
--- ready and nothing else more: whatever is counted of the ready ones, it is what was counted and
--- its own.
+-- An operation is a replica's next one of a log: it is the replica's, its number is greater than
+-- every number of the replica in the log, its clock is greater than every clock, and the log has
+-- nothing under its dot. It names older operations, and ready operations of the log meet its needs.
+-- In the log with it, exactly the operations that were ready before and this one are ready: any sum
+-- over the ready ones grows by exactly its own value.
 pub record IsNext (log : LogMap) (name : Replica) (o : Op) : Type 0 where
   pub own : o.stamp.replica ≡ name
   pub next : AllByRecursion (λ x. x.stamp.replica ≡ name → x.stamp.seq < o.stamp.seq)
@@ -31,7 +31,7 @@ pub record IsNext (log : LogMap) (name : Replica) (o : Op) : Type 0 where
   pub only : (f : Op → ℕ) → sum_by f (ready_ops (operations (with_op log o))) ≡ f o
       + sum_by f (ready_ops (operations log))
 
--- What an edit by a replica makes of a log is the replica's next operation of it.
+-- An operation that an edit by a replica makes of a log is the replica's next one of the log.
 abbrev pub MadeIsNext : Type 0
 MadeIsNext = (log : LogMap) (name : Replica) (edit : Edit) (o : Op) → IsSet log
     → made (operations log) name edit ≡ Ok o → IsNext log name o

@@ -1,4 +1,4 @@
--- What an edit makes of a set of operations.
+-- The operation that an edit makes of a set of operations.
 use Rattle.std.specs.Prelude.{ℕ, suc, Bool, true, false, not, ◌==◌, ◌||◌, List, [], ◌∷◌, map}
 use Rattle.std.specs.Prelude.{filter, length, Option, Some, None, option_map, unwrap_or, Result, Ok}
 use Rattle.std.specs.Prelude.{Err, nat_le, max}
@@ -25,9 +25,9 @@ use Rattle.mt_replica.specs.declared.fault.EditorFault.TheVariants.{ZeroLength, 
 use Rattle.mt_replica.specs.declared.fault.EditorFault.TheVariants.{NoSuchItem, Absent, TooManyTags}
 use Rattle.mt_replica.specs.declared.fault.EditorFault.TheVariants.{ClockFull, SeqFull}
 
--- ---- its stamp
+-- ---- the stamp
 
--- the greatest of some numbers, 0 where there is none
+-- the greatest of some numbers, 0 if there is none
 abbrev pub greatest_of : List ℕ → ℕ
 greatest_of [] = 0
 greatest_of (n ∷ numbers) = max n (greatest_of numbers)
@@ -44,27 +44,27 @@ is_by name o = o.stamp.replica.0 == name.0
 abbrev pub greatest_seq : Replica → List Op → ℕ
 greatest_seq name ops = greatest_of (map (λ (o : Op). o.stamp.seq) (filter (is_by name) ops))
 
--- The clock is greater than every clock of the set (Lamport: Communications of the ACM 21, 1978),
--- and the number the next one of the replica.
+-- The clock is the greatest clock of the set plus 1 (Lamport: Communications of the ACM 21, 1978),
+-- and the number is the next one of the replica.
 abbrev pub made_stamp : List Op → Replica → Stamp
 made_stamp ops name = record { clock = suc (greatest_clock ops); replica = name; seq = suc
     (greatest_seq name ops) }
 
--- ---- what it does
+-- ---- the act
 
 module _ (ready : List Op) where
-  -- The current place of a track: the last one that it was put at (the place of its track in a
+  -- The current place of a track: the last place that it was put at (the place of its track in a
   -- session).
   abbrev pub current_place : Stamp → Stamp
   current_place track = unwrap_or (option_map (λ (w : Written (Option Stamp)). w.writer)
       (last_write track_place_written track ready)) track
 
-  -- the live tags of an item, rising
+  -- the live tags of an item, in rising order
   abbrev pub rising_tags : Stamp → List Stamp
   rising_tags item = sort_by stamp_cmp (live_tags item ready)
 
-  -- The act that an edit makes where these operations are ready: a Remove lists all live tags, and
-  -- a track is put after another one's current place (profile).
+  -- The act that an edit makes with these ready operations: a Remove lists all live tags, and a
+  -- track is put after the current place of another (profile).
   abbrev pub made_act : Edit → Body
   made_act (AddTrack after title) = act.AddTrack (option_map current_place after) title
   made_act (MoveTrack track after) = act.MoveTrack track (option_map current_place after)
@@ -81,18 +81,18 @@ module _ (ready : List Op) where
   made_act (SetFade clip fade_in fade_out) = act.SetFade clip fade_in fade_out
   made_act (SetMarkerLength marker len) = act.SetMarkerLength marker len
 
-  -- whether a Remove could list all live tags
+  -- whether a Remove can list all live tags
   abbrev pub tags_fit : Edit → Bool
   tags_fit (Remove item) = nat_le (length (rising_tags item)) greatest_tag_count
   tags_fit _ = true
 
--- ---- its refusals
+-- ---- the refusals
 
--- whether a clip would play at least one frame, whatever is ready
+-- whether a clip plays at least one frame, whatever operations are ready
 abbrev pub plays : Edit → Bool
 plays edit = length_is_good (made_act [] edit)
 
--- whether no fade would last too long
+-- whether every fade is within the greatest length
 abbrev pub fades_fit : Edit → Bool
 fades_fit edit = fades_are_good (made_act [] edit)
 
@@ -101,7 +101,7 @@ abbrev pub named_track : Option Stamp → List Need
 named_track None = []
 named_track (Some track) = need_of Track track ∷ []
 
--- the items that an edit names and what each has to be, in the order of the edit's fields (profile)
+-- the items that an edit names with their roles, in the order of the edit's fields (profile)
 abbrev pub names_of : Edit → List Need
 names_of (AddTrack after title) = named_track after
 names_of (MoveTrack track after) = need_of Track track ∷ named_track after
@@ -118,12 +118,12 @@ names_of (Retitle item title) = need_of Titled item ∷ []
 names_of (SetFade clip fade_in fade_out) = need_of Clip clip ∷ []
 names_of (SetMarkerLength marker len) = need_of Marker marker ∷ []
 
--- A Restore is there for items that were removed; what any other edit names has to be present.
+-- A Restore may name a removed item; the items that any other edit names have to be present.
 abbrev pub names_present : Edit → Bool
 names_present (Restore item) = false
 names_present _ = true
 
--- a refusal where a test fails
+-- a refusal if a test fails
 abbrev pub unless : Bool → EditorFault → Option EditorFault
 unless true fault = None
 unless false fault = Some fault
@@ -133,13 +133,13 @@ abbrev pub or_else : Option EditorFault → Option EditorFault → Option Editor
 or_else None second = second
 or_else (Some fault) second = Some fault
 
--- the first refusal of the numbers of an edit
+-- the first refusal because of the numbers of an edit
 abbrev pub numbers_refused : Edit → Option EditorFault
 numbers_refused edit = or_else (unless (plays edit) ZeroLength)
     (unless (fades_fit edit) FadeTooLong)
 
--- A named item has to be added by one of the ready operations in its role, and to be present where
--- the edit asks that.
+-- One of the ready operations has to add a named item in its role, and the item has to be present
+-- if the edit requires it.
 abbrev pub name_refused : List Op → Bool → Need → Option EditorFault
 name_refused ready present need =
     or_else (unless (list_any (meets need) ready) (NoSuchItem need.stamp))
@@ -151,7 +151,7 @@ names_refused ready present [] = None
 names_refused ready present (need ∷ needs) = or_else (name_refused ready present need)
     (names_refused ready present needs)
 
--- whether there is room for another clock and another number
+-- whether there is another clock and another number
 abbrev pub stamp_refused : List Op → Replica → Option EditorFault
 stamp_refused ops name = or_else (unless (not (nat_le greatest (greatest_clock ops))) ClockFull)
     (unless (not (nat_le greatest (greatest_seq name ops))) SeqFull)
@@ -170,11 +170,11 @@ refused ops name edit =
 abbrev pub made_op : List Op → Replica → Edit → Op
 made_op ops name edit = record { stamp = made_stamp ops name; act = made_act (ready_ops ops) edit }
 
--- a refusal, or what there is without one
+-- the refusal, if there is one, and the value otherwise
 abbrev pub or_made : {X : Type 0} → Option EditorFault → X → Result X EditorFault
 or_made None x = Ok x
 or_made (Some fault) x = Err fault
 
--- What an edit by a replica makes of a set: its first refusal, or one operation.
+-- What an edit by a replica makes of a set: the first refusal, or one operation.
 abbrev pub made : List Op → Replica → Edit → Result Op EditorFault
 made ops name edit = or_made (refused ops name edit) (made_op ops name edit)

@@ -1,4 +1,4 @@
--- Working definitions: what an editor keeps beside its log.
+-- Working definitions: the state that an editor keeps next to its log.
 use Rattle.std.specs.Prelude.{◌≡◌, ◌≢◌, ℕ, cond, Bool, true, false, List, length, nat_le, Option}
 use Rattle.std.specs.Prelude.{Some, None, Ok}
 use Rattle.std.specs.List.{sum_by}
@@ -23,32 +23,33 @@ pub record Named : Type 0 where
   pub name : Replica
   pub log : LogMap
 
--- the same, and whether its session is kept beside it
+-- a named log, and whether its session is kept
 pub record StateValue : Type 0 where
   pub named : Named
   pub shown : Bool
 
--- Each operation of a log was offered to what holds operations back, which has not failed.
+-- Each operation of a log was offered to the hold-back, which has not failed.
 pub record HoldsBack (log : LogMap) (waiting : holding.HoldBackValue Op) : Type 0 where
   pub whole : waiting.failed ≡ false
   pub offered : (f : Op → ℕ) → sum_by f (all_offered waiting.contents) ≡ sum_by f (operations log)
 
--- Noted are the ready operations of the log, and the greatest clock and number are known.
+-- The items are those after the ready operations of the log, and the clock and the number are the
+-- greatest ones.
 pub record IsState (state : Named) (items : List Op) (clock seq : ℕ) : Type 0 where
   pub applied : (f : Op → ℕ) → sum_by f items ≡ sum_by f (ready_ops (operations state.log))
   pub clock_is : clock ≡ greatest_clock (operations state.log)
   pub seq_is : seq ≡ greatest_seq state.name (operations state.log)
 
--- The number of held operations that is kept, if one is, is that of the log.
+-- The kept number of held operations, if there is one, is that of the log.
 abbrev pub IsHeldOf : LogMap → Option ℕ → Type 0
 IsHeldOf log None = Unit {0}
 IsHeldOf log (Some held) = held ≡ length (held_ops (operations log))
 
--- a change made the operation of the log
+-- a change made this operation of the log
 abbrev pub IsMade : Named → Op → Type 0
 IsMade state op = (edit : Edit) × (made (operations state.log) state.name edit ≡ Ok op)
 
--- a change made it of what an editor holds
+-- a change made this operation of the editor's log
 abbrev pub IsMadeIn : Replica → Option LogMap → Op → Type 0
 IsMadeIn name None op = ⊥
 IsMadeIn name (Some log) op = IsMade (record { name = name; log = log }) op
@@ -56,19 +57,19 @@ IsMadeIn name (Some log) op = IsMade (record { name = name; log = log }) op
 abbrev pub IsMadeOf : Editor → Op → Type 0
 IsMadeOf kept op = IsMadeIn kept.name kept.log op
 
--- why a change has no body
+-- the first refusal of a change's body
 abbrev pub body_refused : List Op → Edit → Option EditorFault
 body_refused ops edit =
     or_else (numbers_refused edit)
     (or_else (names_refused (ready_ops ops) (names_present edit) (names_of edit))
     (unless (tags_fit (ready_ops ops) edit) TooManyTags))
 
--- whether an act lists no more tags than it may
+-- whether an act lists at most the greatest number of tags
 abbrev pub lists_few : Body → Bool
 lists_few (Remove item tags) = nat_le (length tags) greatest_tag_count
 lists_few _ = true
 
--- the number of an operation of this replica, 0 of another's
+-- the number of an operation of this replica, and 0 for another's
 unfoldable pub own_seq : Replica → Op → ℕ
 own_seq name o = cond (is_by name o) o.stamp.seq 0
 
@@ -78,7 +79,7 @@ Found log op None = map.get log (op_dot op) ≡ None
 Found log op (Some true) = map.get log (op_dot op) ≡ Some op
 Found log op (Some false) = (other : Op) × ((map.get log (op_dot op) ≡ Some other) × (other ≢ op))
 
--- an editor has a log, and nothing under the operation's dot
+-- the editor has a log, with nothing under the operation's dot
 abbrev pub IsNewTo : Option LogMap → Op → Type 0
 IsNewTo None op = ⊥
 IsNewTo (Some log) op = map.get log (op_dot op) ≡ None

@@ -1,4 +1,4 @@
-//! What a change does to a session.
+//! The operation body of a change.
 
 ghost use Rattle.std.specs.Prelude.{◌≡◌, option_map, IfOk};
 ghost use Rattle.mt_op.specs.Bodies.{act_of};
@@ -12,7 +12,7 @@ use mt_stamp::{List, Stamp};
 use session_state::ItemStates;
 use std::alloc::{AllocError, Allocator};
 
-/// Whether a clip that a change adds or trims would play at least one frame.
+/// Whether a clip that a change adds or trims plays at least one frame.
 pub(crate) fn plays<A: Allocator>(change: &Change<A>) -> bool
     ensures { result ≡ plays (edit_of change.now) }
 {
@@ -22,7 +22,7 @@ pub(crate) fn plays<A: Allocator>(change: &Change<A>) -> bool
     }
 }
 
-/// Whether no fade that a change gives a clip lasts too long.
+/// Whether every fade that a change sets is within the greatest length.
 pub(crate) fn fades_fit<A: Allocator>(change: &Change<A>) -> bool
     ensures { result ≡ fades_fit (edit_of change.now) }
 {
@@ -36,7 +36,7 @@ pub(crate) fn fades_fit<A: Allocator>(change: &Change<A>) -> bool
     }
 }
 
-// The current place of a track; of what is no track, its own stamp.
+// The current place of a track; for a stamp that is not a track's, that stamp.
 fn place_of<A: Allocator>(items: &ItemStates<A>, track: Stamp) -> Stamp
     ensures { result ≡ current_place items.now track }
 {
@@ -46,7 +46,7 @@ fn place_of<A: Allocator>(items: &ItemStates<A>, track: Stamp) -> Stamp
     }
 }
 
-// The current place of a track that another is put after.
+// The current place of the track that another is put after.
 fn place_after<A: Allocator>(items: &ItemStates<A>, after: Option<Stamp>) -> Option<Stamp>
     ensures { result ≡ option_map (current_place items.now) after }
 {
@@ -56,7 +56,7 @@ fn place_after<A: Allocator>(items: &ItemStates<A>, after: Option<Stamp>) -> Opt
     }
 }
 
-// The live tags of an item, rising.
+// The live tags of an item, in rising order.
 fn tags_of<A: Allocator + Clone>(
     items: &ItemStates<A>,
     item: Stamp,
@@ -67,7 +67,7 @@ fn tags_of<A: Allocator + Clone>(
     Ok(List::new(tags))
 }
 
-/// What a change does where these operations are ready. `AllocError` where an allocation failed.
+/// The body of a change, with these ready operations. `AllocError` when an allocation fails.
 pub(crate) fn body_of<A: Allocator + Clone>(
     items: &ItemStates<A>,
     change: &Change<A>,
@@ -147,7 +147,7 @@ pub(crate) fn body_of<A: Allocator + Clone>(
     })
 }
 
-/// Whether a Remove lists no more tags than it may.
+/// Whether a Remove lists at most the greatest number of tags.
 pub(crate) fn lists_few<A: Allocator>(body: &Body<A>) -> bool
     ensures { result ≡ lists_few (act_of body.now) }
 {

@@ -1,4 +1,4 @@
-//! What an editor keeps beside a log.
+//! The state that an editor keeps next to a log.
 
 ghost use Rattle.std.specs.Prelude.{◌≡◌, ℕ, [], map, false, IfOk, IfSome, OnOk};
 ghost use Rattle.std.specs.List.{AllByRecursion, sum_by};
@@ -19,8 +19,8 @@ use mt_sessionview::sorted_ops;
 use session_state::{ItemStates, items_of_ready};
 use std::alloc::{AllocError, Allocator};
 
-// Offers an operation of a greater stamp than those that wait, and notes it where its needs are met
-// by what was released, which is what was noted.
+// Offers an operation with a greater stamp than those that wait, and applies it if its needs are
+// met by the released operations, which are the applied ones.
 fn take_next<A: Allocator + Clone>(
     waiting: &mut HoldBack<Op<A>, A>,
     items: ItemStates<A>,
@@ -35,8 +35,8 @@ fn take_next<A: Allocator + Clone>(
     ensures same { IfOk result (λ after. (f : OpValue → ℕ)
         → sum_by f after ≡ sum_by f waiting.new.contents.released) }
 {
-    // for the proof: that what was released is what is ready, and that the operation names older
-    // ones
+    // for the proof: that the released operations are the ready ones, and that the operation names
+    // older ones
     let (_released, _stamp) = (waiting.released(), op.stamp());
     if items.are_needs_met(op) {
         let items = items.apply(op)?;
@@ -47,7 +47,8 @@ fn take_next<A: Allocator + Clone>(
     Ok(items)
 }
 
-// What holds these operations back, which rise by stamp, and the items that the ready ones leave.
+// The hold-back of these operations, which are sorted by rising stamp, and the items after the
+// ready ones.
 fn all_taken<A: Allocator + Clone>(
     alloc: &A,
     ops: &[&Op<A>],
@@ -66,8 +67,8 @@ fn all_taken<A: Allocator + Clone>(
     Ok((waiting, items))
 }
 
-/// The items that the ready operations of a log leave: each is noted where it is ready, by rising
-/// stamp. n operations cost n log n. `AllocError` where an allocation failed.
+/// The items after the ready operations of a log, applied by rising stamp. n operations cost n log
+/// n. `AllocError` when an allocation fails.
 pub(crate) fn items_beside<A: Allocator + Clone>(
     alloc: &A,
     log: &Log<A>,
@@ -81,9 +82,9 @@ pub(crate) fn items_beside<A: Allocator + Clone>(
     Ok(items_of_ready(alloc.clone()?, &sorted)?)
 }
 
-/// What holds the operations of a log back, and the items that the ready ones leave: each operation
-/// is offered, and noted where it is ready, by rising stamp. n operations cost n log n.
-/// `AllocError` where an allocation failed.
+/// The hold-back of a log's operations, and the items after the ready ones: each operation is
+/// offered, and applied if it is ready, by rising stamp. n operations cost n log n. `AllocError`
+/// when an allocation fails.
 pub(crate) fn beside_log<A: Allocator + Clone>(
     alloc: &A,
     log: &Log<A>,
@@ -96,13 +97,13 @@ pub(crate) fn beside_log<A: Allocator + Clone>(
     let _ = log.runs();
     let sorted = sorted_ops(alloc.clone()?, log)?;
     let (waiting, items) = all_taken(alloc, &sorted)?;
-    // for the proof: that what was released is what is ready
+    // for the proof: that the released operations are the ready ones
     let _ = waiting.released();
     Ok((waiting, items))
 }
 
-/// What holds the operations of a log back, which is made of the log where it is not there yet.
-/// `AllocError` where an allocation failed.
+/// The hold-back of a log's operations, which is made from the log if there is none yet.
+/// `AllocError` when an allocation fails.
 pub(crate) fn held_back<A: Allocator + Clone>(
     alloc: &A,
     log: &Log<A>,

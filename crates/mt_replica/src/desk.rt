@@ -1,4 +1,4 @@
-//! The log that is edited: an editor, which has its session, and a draft, which has none.
+//! The edited log: an editor, which has the log's session, and a draft, which has none.
 
 ghost use Rattle.std.specs.Prelude.{◌≡◌, ◌≢◌, ◌↔◌, IsErrOf, IfOk, IfErr, OnOk, OnErr, Ok, None};
 ghost use Rattle.std.specs.Prelude.{Some, Bool, true, false};
@@ -20,18 +20,18 @@ use mt_stamp::Replica;
 use std::alloc::{AllocError, Allocator, Global};
 use std::marker::{Model, PhantomData};
 
-/// Whether a desk has the session of its log.
+/// Whether an `EditorCore` has the session of its log.
 pub trait Sessions {
     ghost SHOWN: { Bool };
 
-    /// Whether it has.
+    /// Whether the `EditorCore` has the session of its log.
     const SHOWN: bool;
 }
 
-/// A desk has its session.
+/// With the session of the log: an `Editor`.
 pub struct WithSession;
 
-/// A desk has no session.
+/// Without the session of the log: a `Draft`.
 pub struct WithoutSession;
 
 impl Sessions for WithSession {
@@ -46,10 +46,10 @@ impl Sessions for WithoutSession {
     const SHOWN: bool = false;
 }
 
-/// A log that is edited under a name, with its session or without: an `Editor` or a `Draft`. They
-/// are equal where their names and logs are, and with these their sessions. Once an allocation
-/// failed in `take` or `edit` it has failed: it has neither log nor session any more, and every
-/// call that can be refused answers `Failed` (20).
+/// A log that is edited under a name, with or without its session: an `Editor` or a `Draft`. Two
+/// are equal if their names and their logs are equal; then their sessions are equal too. When an
+/// allocation fails in `take` or `edit`, it has failed: it no longer has a log or a session, and
+/// every call that can fail returns `Failed` (20).
 #[derive(Drop)]
 pub struct EditorCore<A: Allocator, S: Sessions> {
     alloc: A,
@@ -62,8 +62,8 @@ pub struct EditorCore<A: Allocator, S: Sessions> {
 /// An editor: a name, a log and the session of the log's operations.
 pub type Editor<A = Global> = EditorCore<A, WithSession>;
 
-/// A log that is edited under a name, without its session: for many edits one after another between
-/// which nobody looks at the session. Each call answers as an editor's does and leaves the same
+/// A log that is edited under a name, without its session: for many edits in a row between which
+/// the session is not read. Each call returns what an editor's call returns, and leaves the same
 /// log.
 pub type Draft<A = Global> = EditorCore<A, WithoutSession>;
 
@@ -85,8 +85,7 @@ impl<A: Allocator, S: Sessions> Model for EditorCore<A, S> {
 }
 
 impl<A: Allocator, S: Sessions> EditorCore<A, S> {
-    /// Its log: all operations that it has taken, those that are held too; `None` where it has
-    /// failed.
+    /// The log: all operations that were taken, held ones included; `None` after a failure.
     pub fn log(&self) -> Option<&Log<A>>
         ensures { option_copied result ≡ self.now.log }
     {
@@ -100,7 +99,7 @@ impl<A: Allocator, S: Sessions> EditorCore<A, S> {
 impl<A: Allocator + Clone> Draft<A> {
     ghost use Rattle.mt_replica.specs.EditorValue.{Editor as EditorValue};
 
-    /// A draft that has taken a log's operations. Refused only as `Memory` (0).
+    /// A draft that has taken a log's operations. Fails only with `Memory` (0).
     pub fn new(alloc: A, name: Replica, log: Log<A>) -> Result<Self, EditorFault>
         ensures ok { IfOk result (λ draft. draft ≡ record { name = name; log = Some log; joins = 0
             }) }
@@ -113,7 +112,7 @@ impl<A: Allocator + Clone> Draft<A> {
 impl<A: Allocator + Clone> Editor<A> {
     ghost use Rattle.mt_replica.specs.EditorValue.{Editor as EditorValue, session_in};
 
-    /// An editor of this name that has taken a log's operations. Refused only as `Memory` (0).
+    /// An editor of this name that has taken a log's operations. Fails only with `Memory` (0).
     pub fn from_log(alloc: A, name: Replica, log: Log<A>) -> Result<Self, EditorFault>
         ensures ok { IfOk result (λ editor. editor ≡ record
             { name = name; log = Some log; joins = 0 }) }
@@ -122,7 +121,7 @@ impl<A: Allocator + Clone> Editor<A> {
         Ok(EditorCore::of_log(alloc, name, log)?)
     }
 
-    /// The editor of a draft, which has not failed. Refused only as `Memory` (0).
+    /// The editor of a draft that has not failed. Fails only with `Memory` (0).
     pub fn of_draft(draft: Draft<A>) -> Result<Self, EditorFault>
         requires whole { draft.log ≢ None }
         ensures ok { IfOk result (λ editor. editor ≡ draft) }
@@ -148,7 +147,7 @@ impl<A: Allocator + Clone> Editor<A> {
         })
     }
 
-    /// The session of the operations in its log; `None` where it has failed.
+    /// The session of the operations in the log; `None` after a failure.
     pub fn session(&self) -> Option<&Session<A>>
         ensures { option_copied result ≡ session_in self.now }
     {
@@ -165,7 +164,7 @@ impl<A: Allocator + Clone, S: Sessions> EditorCore<A, S> {
     ghost use Rattle.mt_replica.specs.EditorValue.{after_edit, TakeGives, after_take};
     ghost use Rattle.mt_replica.specs.State.{IsMadeOf, IsNewTo};
 
-    // A desk that has taken a log's operations. `AllocError` where an allocation failed.
+    // An `EditorCore` that has taken a log's operations. `AllocError` when an allocation fails.
     fn of_log(alloc: A, name: Replica, log: Log<A>) -> Result<Self, AllocError>
         ensures ok { IfOk result (λ desk. desk ≡ record { name = name; log = Some log; joins = 0 })
             }
@@ -184,8 +183,8 @@ impl<A: Allocator + Clone, S: Sessions> EditorCore<A, S> {
         })
     }
 
-    // A desk of its name with a copy of its log. Refused as `Failed` (20) where it has failed, and
-    // as `Memory` (0).
+    // An `EditorCore` of the same name with a copy of the log. Fails with `Failed` (20) if this one
+    // has failed, and with `Memory` (0).
     fn copy<T: Sessions>(&self) -> Result<EditorCore<A, T>, EditorFault>
         ensures ok { IfOk result (λ copy. copy ≡ copied self.now) }
         ensures failed { IsErrOf result EditorFault.Failed ↔ (self.now.log ≡ None) }
@@ -201,29 +200,29 @@ impl<A: Allocator + Clone, S: Sessions> EditorCore<A, S> {
         }
     }
 
-    /// Its name.
+    /// The name.
     pub fn name(&self) -> Replica
         ensures { result ≡ self.now.name }
     {
-        // for the proof: that the name and the count are those of the desk as a whole
+        // for the proof: that the name and the count are those of the `EditorCore` as a whole
         let (_state, name) = (&self.state, self.name);
         name
     }
 
-    /// How many cells it has joined since `from_log`, `new` or `try_clone` made it: one for each
-    /// field that an operation writes, each tag that it adds and each tag that it lists, of the
-    /// operations that became ready by a take or an edit. It stands still at the greatest `u64`,
-    /// and where it has failed. A session that is mended is not counted, and no comparison looks at
-    /// it.
+    /// The number of cells joined since `from_log`, `new` or `try_clone` made it: one for each
+    /// field that an operation writes, each tag that it adds and each tag that it lists, over the
+    /// operations that became ready by a take or an edit. The count stays at the greatest `u64`
+    /// once it gets there, and no longer changes after a failure. Updates of the session are not
+    /// counted, and comparisons ignore the count.
     pub fn joins(&self) -> u64
         ensures { result ≡ self.now.joins }
     {
-        // for the proof: that the name and the count are those of the desk as a whole
+        // for the proof: that the name and the count are those of the `EditorCore` as a whole
         let (_state, joins) = (&self.state, self.joins);
         joins
     }
 
-    /// Its log by value, `None` where it has failed: what else it kept is let go.
+    /// The log by value, `None` after a failure; the rest is dropped.
     pub fn into_log(self) -> Option<Log<A>>
         ensures { result ≡ self.log }
     {
@@ -234,9 +233,9 @@ impl<A: Allocator + Clone, S: Sessions> EditorCore<A, S> {
         }
     }
 
-    /// A draft of its name with a copy of its log: for many edits between which nobody looks at the
-    /// session. Refused as `Failed` (20) where it has failed, and as `Memory` (0), which leaves it
-    /// unchanged.
+    /// A draft of the same name with a copy of the log: for many edits in a row between which the
+    /// session is not read. Fails with `Failed` (20) if this one has failed, and with `Memory` (0),
+    /// which leaves this one unchanged.
     pub fn draft(&self) -> Result<Draft<A>, EditorFault>
         ensures ok { IfOk result (λ draft. draft ≡ copied self.now) }
         ensures failed { IsErrOf result EditorFault.Failed ↔ (self.now.log ≡ None) }
@@ -246,8 +245,8 @@ impl<A: Allocator + Clone, S: Sessions> EditorCore<A, S> {
         self.copy()
     }
 
-    /// An equal one of the same name, which counts its joins from 0. Refused as `Failed` (20) where
-    /// it has failed, and as `Memory` (0), which leaves it unchanged.
+    /// A copy, equal and of the same name, which counts its joins from 0. Fails with `Failed` (20)
+    /// if this one has failed, and with `Memory` (0), which leaves this one unchanged.
     pub fn try_clone(&self) -> Result<Self, EditorFault>
         ensures ok { IfOk result (λ copy. copy ≡ copied self.now) }
         ensures failed { IsErrOf result EditorFault.Failed ↔ (self.now.log ≡ None) }
@@ -257,8 +256,8 @@ impl<A: Allocator + Clone, S: Sessions> EditorCore<A, S> {
         self.copy()
     }
 
-    /// Lets it fail: it has neither log nor session any more. For whoever works out a new log for
-    /// it in steps of their own and is refused memory.
+    /// Makes it fail: it no longer has a log or a session. For callers that compute a new log for
+    /// it themselves and run out of memory.
     pub fn fail(&mut self)
         ensures { self.new ≡ failed self.old }
     {
@@ -282,18 +281,16 @@ impl<A: Allocator + Clone, S: Sessions> EditorCore<A, S> {
         }
     }
 
-    /// Makes the operation of a change, takes it, and gives a copy. Its clock is 1 above the
-    /// greatest in the log, held operations included, and its number 1 above the greatest of this
-    /// replica there. A Remove lists all live tags of its item, and a track is put after the
-    /// current place of the one that is named.
-    ///
-    /// Refused, in this order: `Failed` (20) where it has failed; `ZeroLength` (6) where a clip
-    /// would play no frame; `FadeTooLong` (51) where it would fade over more than 1,048,576 frames;
-    /// then for each item that the change names, in the order of its fields, `NoSuchItem` (21)
-    /// where no ready operation of that stamp adds such an item and `Absent` (22) where it is not
-    /// present, which a Restore does not ask; `TooManyTags` (25) where a Remove would list over
-    /// 65,535; `ClockFull` (23) and `SeqFull` (24) where the greatest clock or number is 2^62. All
-    /// these change nothing. `Memory` (0) where an allocation failed: then it has failed.
+    /// Makes the operation of a change, takes it, and returns a copy. Its clock is the log's
+    /// greatest, held operations included, plus 1; its number is this replica's greatest there,
+    /// plus 1. A Remove lists all live tags, and a track is put after the current place of the
+    /// named one.
+    /// Errors, in this order: `Failed` (20) after a failure; `ZeroLength` (6) for a clip of no
+    /// frames; `FadeTooLong` (51) for a fade over 1,048,576 frames; for each item named, in the
+    /// order of the fields, `NoSuchItem` (21) if no ready operation of that stamp adds such an
+    /// item, `Absent` (22) if it is not present (except for a Restore); `TooManyTags` (25) for a
+    /// Remove of over 65,535; `ClockFull` (23), `SeqFull` (24) if the greatest clock or number is
+    /// 2^62. These change nothing. `Memory` (0) when an allocation fails: then it has failed.
     pub fn edit(&mut self, change: &Change<A>) -> Result<Op<A>, EditorFault>
         ensures gives { EditGives self.old (edit_of change.now) result }
         ensures holds { self.new ≡ after_edit self.old result }
@@ -334,13 +331,13 @@ impl<A: Allocator + Clone, S: Sessions> EditorCore<A, S> {
         }
     }
 
-    /// Takes an operation, of this replica or of another, into the log: `Already` where the same
-    /// one is there, `Held` where it has to wait for others, and `Applied` with the stamps of all
-    /// that became ready by it, rising.
+    /// Takes an operation, of this replica or of another, into the log. Returns `Already` if the
+    /// log has it, `Held` if it has to wait for others, and `Applied` with the stamps of all
+    /// operations that became ready by it, in rising order.
     ///
-    /// Refused as `Failed` (20) where it has failed, and as `Conflict` (17) with its dot where
-    /// another operation has that dot; both change nothing. `Memory` (0) where an allocation
-    /// failed: then it has failed.
+    /// Fails with `Failed` (20) after a failure, and with `Conflict` (17) and the dot if another
+    /// operation has that dot; both change nothing. Fails with `Memory` (0) when an allocation
+    /// fails: then it has failed.
     pub fn take(&mut self, op: Op<A>) -> Result<Taken<A>, EditorFault>
         ensures gives { TakeGives self.old.log op result }
         ensures holds { self.new ≡ after_take self.old op result }
@@ -357,7 +354,7 @@ impl<A: Allocator + Clone, S: Sessions> EditorCore<A, S> {
     }
 }
 
-// Whether there is no log in either place, or equal ones.
+// Whether both are `None`, or both are logs and equal.
 fn same_logs<A: Allocator>(a: Option<&Log<A>>, b: Option<&Log<A>>) -> bool
     ensures { result ≡ pointwise nat_eq (log_word (option_copied a.entry))
         (log_word (option_copied b.entry)) }
@@ -369,7 +366,7 @@ fn same_logs<A: Allocator>(a: Option<&Log<A>>, b: Option<&Log<A>>) -> bool
     }
 }
 
-// By their names and logs: each editor has the session of its log.
+// Compares the names and the logs: each editor has the session of its log.
 impl<A: Allocator, S: Sessions> PartialEq for EditorCore<A, S> {
     ghost use Rattle.std.specs.Prelude.{nat_eq};
     ghost use Rattle.std.specs.Cmp.{on_per, partial_equiv_from_equiv};

@@ -1,4 +1,4 @@
-//! Why an editor refuses.
+//! The refusals of an editor.
 
 ghost use Rattle.std.specs.Prelude.{◌≡◌};
 ghost use Rattle.mt_replica.specs.Faults.{number_of};
@@ -8,16 +8,16 @@ use mt_stamp::{Dot, Stamp};
 use std::alloc::{AllocError, AllocFailed};
 use thiserror::Error;
 
-/// Why an editor refuses. Each refusal has a number that never changes.
+/// A refusal of an editor. Each has a number that never changes.
 #[derive(Clone, Copy, Debug, PartialEq, Eq, Error)]
 pub enum EditorFault {
-    /// A growth was refused.
+    /// An allocation failed.
     #[error("out of memory")]
     Memory,
-    /// A growth was refused earlier, and the editor holds nothing for good.
+    /// An allocation failed earlier, and the editor has had no log since.
     #[error("the editor has failed")]
     Failed,
-    /// Another operation has the dot.
+    /// The log has another operation under the dot.
     #[error("two operations have one dot")]
     Conflict(Dot),
     /// A clip would play no frame.
@@ -26,7 +26,7 @@ pub enum EditorFault {
     /// No ready operation of this stamp adds such an item.
     #[error("there is no such item")]
     NoSuchItem(Stamp),
-    /// The item of this stamp was removed.
+    /// The item of this stamp is removed.
     #[error("the item is not present")]
     Absent(Stamp),
     /// The item has over 65,535 live tags, more than a Remove can list.

@@ -17,7 +17,7 @@ pub(crate) fn greater(first: u64, second: u64) -> u64
     if first < second { second } else { first }
 }
 
-// The greatest clock of these operations, 0 where there is none.
+// The greatest clock of these operations, 0 if there is none.
 fn clock_of_run<A: Allocator>(ops: &[Op<A>]) -> u64
     ensures { result ≡ greatest_clock ops.now }
 {
@@ -28,7 +28,7 @@ fn clock_of_run<A: Allocator>(ops: &[Op<A>]) -> u64
     greatest
 }
 
-/// The greatest clock of the operations of these runs, 0 where there is none.
+/// The greatest clock of the operations of these runs, 0 if there is none.
 pub(crate) fn greatest_clock<A: Allocator>(runs: &[Run<A>]) -> u64
     ensures { result ≡ greatest_clock (run_ops runs.now) }
 {
@@ -39,7 +39,7 @@ pub(crate) fn greatest_clock<A: Allocator>(runs: &[Run<A>]) -> u64
     greatest
 }
 
-/// An operation's number where this replica made it, and else 0.
+/// The number of an operation that this replica made, and 0 for any other.
 #[tactic(auto, unfolding(crate::specs::State::own_seq))]
 pub(crate) fn own_seq<A: Allocator>(name: Replica, op: &Op<A>) -> u64
     ensures { result ≡ own_seq name op.now }
@@ -51,7 +51,7 @@ pub(crate) fn own_seq<A: Allocator>(name: Replica, op: &Op<A>) -> u64
     }
 }
 
-// The greatest number of this replica's among these operations, 0 where there is none.
+// The greatest number of this replica among these operations, 0 if there is none.
 fn seq_of_run<A: Allocator>(name: Replica, ops: &[Op<A>]) -> u64
     ensures { result ≡ greatest_of (map (own_seq name) ops.now) }
 {
@@ -62,7 +62,7 @@ fn seq_of_run<A: Allocator>(name: Replica, ops: &[Op<A>]) -> u64
     greatest
 }
 
-/// The greatest number of this replica's among the operations of these runs, 0 where there is none.
+/// The greatest number of this replica among the operations of these runs, 0 if there is none.
 pub(crate) fn greatest_seq<A: Allocator>(name: Replica, runs: &[Run<A>]) -> u64
     ensures { result ≡ greatest_of (map (own_seq name) (run_ops runs.now)) }
 {

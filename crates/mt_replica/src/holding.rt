@@ -1,4 +1,4 @@
-//! Operations are offered to what holds them back until they are ready.
+//! Offering operations to a hold-back until they are ready.
 
 ghost use Rattle.std.specs.Prelude.{◌≡◌, ◌≤◌, drop, length, true, false, IfOk, OnOk};
 ghost use Rattle.mt_holdback.specs.HoldBack.{IsHoldBack};
@@ -21,7 +21,7 @@ pub(crate) fn copied<A: Allocator + Clone>(op: &Op<A>) -> Result<Op<A>, AllocErr
     }
 }
 
-/// Offers an operation of a new stamp.
+/// Offers an operation with a new stamp.
 pub(crate) fn offer_new<A: Allocator + Clone>(
     waiting: &mut HoldBack<Op<A>, A>,
     op: Op<A>,
@@ -40,7 +40,7 @@ pub(crate) fn offer_new<A: Allocator + Clone>(
     }
 }
 
-/// Offers an operation of a new stamp whose needs are met by what was released.
+/// Offers an operation with a new stamp whose needs are met by the released operations.
 pub(crate) fn offer_ready<A: Allocator + Clone>(
     waiting: &mut HoldBack<Op<A>, A>,
     op: Op<A>,
@@ -58,7 +58,7 @@ pub(crate) fn offer_ready<A: Allocator + Clone>(
     }
 }
 
-/// What was released from an index on.
+/// The released operations from an index on.
 pub(crate) fn released_from<A: Allocator>(waiting: &HoldBack<Op<A>, A>, first: usize) -> &[Op<A>]
     requires bound { first ≤ length waiting.now.contents.released }
     ensures value { result.now ≡ drop first waiting.now.contents.released }

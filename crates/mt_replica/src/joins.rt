@@ -1,4 +1,4 @@
-//! How many cells operations join.
+//! The number of cells that operations join.
 
 ghost use Rattle.std.specs.Prelude.{◌≡◌};
 ghost use Rattle.std.specs.List.{sum_by};
@@ -24,7 +24,7 @@ pub(crate) fn joins_of<A: Allocator>(op: &Op<A>) -> u64
     }
 }
 
-/// How many these join together, up to the greatest number.
+/// The number of cells that these operations join together, at most the greatest `u64`.
 pub(crate) fn joins_of_all<A: Allocator>(ops: &[Op<A>]) -> u64
     ensures { result ≡ u64_saturate (sum_by joins_of ops.now) }
 {

@@ -1,5 +1,5 @@
-//! What holds of every operation that an edit makes, and when editors, drafts and their answers are
-//! equal: each law is the contract of a function.
+//! Laws of every operation that an edit makes, and of the equality of editors, drafts and their
+//! results: each law is the contract of a function.
 
 ghost use Rattle.std.specs.Prelude.{◌≡◌, ◌↔◌, IsTrue, IfSome};
 ghost use Rattle.mt_opcodec.specs.LogValue.{AreLogged, operations, log_of};
@@ -10,17 +10,18 @@ use crate::fault::EditorFault;
 use crate::taken::Taken;
 use std::alloc::Allocator;
 
-/// What an edit makes of a log, where each operation stands under its own dot and names older ones,
-/// is its author's next operation: its number passes every number of the author in the log, its
-/// clock every clock, held operations included, and the log has nothing under its dot. It names
-/// older ones, ready operations of the log meet its needs, and with it the log has it ready and
-/// nothing else more.
+/// Let each operation of a log be stored under its own dot and name older ones. Then the operation
+/// that an edit makes of the log is its author's next one: its number is greater than every number
+/// of the author in the log, its clock is greater than every clock, held operations included, and
+/// the log has nothing under its dot. It names older operations, and ready operations of the log
+/// meet its needs. In the log with it, exactly the operations that were ready before and this one
+/// are ready.
 pub fn made_operations()
     ensures { MadeIsNext }
 {}
 
-/// Editors are equal where they have one name and one log, or have both failed: then they have one
-/// session too. What they have counted does not matter.
+/// Editors are equal if they have the same name and the same log, or the same name and both have
+/// failed: then they have the same session too. Their counts of joins do not matter.
 pub fn equal_editors<A: Allocator>(a: &Editor<A>, b: &Editor<A>) -> bool
     ensures { IsTrue result ↔ ((a.now.name ≡ b.now.name) × (a.now.log ≡ b.now.log)) }
 {
@@ -29,19 +30,19 @@ pub fn equal_editors<A: Allocator>(a: &Editor<A>, b: &Editor<A>) -> bool
     a == b
 }
 
-// What the log of either holds are operations by rising dot, each with a text of its own.
+// The operations of the log, if there is one, are sorted by rising dot, and each has its own text.
 fn holds_operations<A: Allocator, S: Sessions>(desk: &EditorCore<A, S>)
     ensures { IfSome desk.now.log (λ log. AreLogged (operations log)
         × (log_of (operations log) ≡ log)) }
 {
     if let Some(log) = desk.log() {
-        // for the proof: that the log's operations rise by dot, and that the log is the one of them
+        // for the proof: that the log's operations rise by dot, and that the log is made of them
         let _ = log.runs();
     }
 }
 
-/// Drafts are equal where they have one name and one log, or have both failed. What they have
-/// counted does not matter.
+/// Drafts are equal if they have the same name and the same log, or the same name and both have
+/// failed. Their counts of joins do not matter.
 pub fn equal_drafts<A: Allocator>(draft: &Draft<A>, other: &Draft<A>) -> bool
     ensures { IsTrue result ↔ ((draft.now.name ≡ other.now.name) × (draft.now.log ≡ other.now.log))
         }
@@ -51,15 +52,15 @@ pub fn equal_drafts<A: Allocator>(draft: &Draft<A>, other: &Draft<A>) -> bool
     draft == other
 }
 
-/// What became of two operations is equal where both are `Already`, or both `Held`, or both
-/// `Applied` with the same stamps in the same order.
+/// Two results of a take are equal if both are `Already`, or both `Held`, or both `Applied` with
+/// the same stamps in the same order.
 pub fn equal_taken<A: Allocator>(taken: &Taken<A>, other: &Taken<A>) -> bool
     ensures { IsTrue result ↔ (taken.now ≡ other.now) }
 {
     taken == other
 }
 
-/// Refusals of an editor are equal where they are of one case and name the same dot or stamp.
+/// Refusals of an editor are equal if they are the same variant and name the same dot or stamp.
 pub fn equal_editor_faults(fault: &EditorFault, other: &EditorFault) -> bool
     ensures { IsTrue result ↔ (fault.now ≡ other.now) }
 {

@@ -1,6 +1,6 @@
 //! An editor of a session: a name, a log, and the session of the log's operations.
 //!
-//! An editor takes the operations of others, in whatever order they come, and makes its own from
+//! An editor takes operations of other editors, in any order, and makes its own operations from
 //! changes:
 //!
 //! ```rust
@@ -13,10 +13,11 @@
 //! fn takes_an_edit_of_another(rt: HostRuntime) -> Result<(), Fail> {
 //!     let mut desk = Editor::from_log(rt.alloc(), Replica(10), Log::new(rt.alloc()))?;
 //!     let mut home = Editor::from_log(rt.alloc(), Replica(11), Log::new(rt.alloc()))?;
-//!     // each edit makes an operation, for the others
-//!     let added = desk.edit(&Change::AddMarker { at: 480, title: Title::new(rt.alloc(), "News")? })?;
+//!     // each edit makes an operation, to send to the others
+//!     let added =
+//!         desk.edit(&Change::AddMarker { at: 480, title: Title::new(rt.alloc(), "News")? })?;
 //!     let moved = desk.edit(&Change::MoveMarker { marker: added.stamp(), at: 960 })?;
-//!     // in whatever order they come: what lacks something waits
+//!     // they may come in any order: an operation that lacks another one waits
 //!     assert!(rt; home.take(moved)? == Taken::Held);
 //!     let Taken::Applied(ready) = home.take(added)? else {
 //!         return Err(Fail::from("it is ready"));
@@ -27,13 +28,14 @@
 //! }
 //! ```
 //!
-//! What an edit makes is one definition (`specs/Made.antt`): the first refusal in its order, or one
-//! operation whose clock passes every clock of the log. `Draft` is the same without a session, for
-//! many edits between which nobody looks at one. `laws` says what holds of what is made.
+//! `specs/Made.antt` defines what an edit makes: the first refusal in its order, or one operation
+//! whose clock is greater than every clock of the log. A `Draft` does the same without a session,
+//! for many edits in a row between which the session is not read. `laws` states what holds of every
+//! operation that an edit makes.
 //!
-//! A take looks at the operation, at those that it makes ready, and at what these name, whatever
-//! else is in the log: the editor keeps its operations in a hold-back, notes what that releases in
-//! the state of items, and mends its session at the item of each.
+//! The cost of a take depends on the operation, on those that it makes ready, and on what these
+//! name, and not on the rest of the log: the editor keeps its operations in a hold-back, applies
+//! those that it releases to the state of items, and updates the session entry of each item.
 #![tactic(auto)]
 
 mod body;

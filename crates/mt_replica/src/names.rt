@@ -13,8 +13,8 @@ use mt_stamp::Stamp;
 use session_state::ItemStates;
 use std::alloc::Allocator;
 
-// Why this stamp cannot be named in this role: none of the noted operations of this stamp adds such
-// an item, or, where that is asked, the item is not present.
+// Why this stamp cannot be named in this role: none of the applied operations of this stamp adds
+// such an item, or the item is not present although the edit requires it.
 fn name_refused<A: Allocator>(
     items: &ItemStates<A>,
     stamp: Stamp,
@@ -42,7 +42,7 @@ fn first_of(first: Option<EditorFault>, second: Option<EditorFault>) -> Option<E
     }
 }
 
-// Why an item cannot be named that has to be present.
+// Why an item that has to be present cannot be named.
 fn item_refused<A: Allocator>(
     items: &ItemStates<A>,
     stamp: Stamp,
@@ -53,7 +53,7 @@ fn item_refused<A: Allocator>(
     name_refused(items, stamp, role, true)
 }
 
-// Why a track cannot be named that another is put after.
+// Why the track that another is put after cannot be named.
 fn after_refused<A: Allocator>(items: &ItemStates<A>, after: Option<Stamp>) -> Option<EditorFault>
     ensures { result ≡ names_refused items.now true (named_track after) }
 {

@@ -1,4 +1,4 @@
-//! What became of an operation that was offered, and of the operations that became ready by it.
+//! The result of an offer: what happened to the operation, and which operations became ready by it.
 
 ghost use Rattle.std.specs.Prelude.{◌≡◌, ◌≤◌, drop, length, option_map, IfOk};
 ghost use Rattle.std.specs.List.{sum_by};
@@ -16,8 +16,8 @@ use mt_op::Op;
 use mt_stamp::{List, Stamp};
 use std::alloc::{AllocError, Allocator};
 
-/// What is kept beside a log after an offer, what became of the operation, and how many cells were
-/// joined, up to the greatest number.
+/// What is kept next to a log after an offer, the result of the take, and the number of cells
+/// joined, at most the greatest `u64`.
 #[derive(Drop)]
 pub(crate) struct Outcome<A: Allocator> {
     pub view: EditorState<A>,
@@ -25,7 +25,7 @@ pub(crate) struct Outcome<A: Allocator> {
     pub joins: u64,
 }
 
-// What is noted with these operations, one after another.
+// The state after these operations are applied one after another.
 fn all_applied<A: Allocator + Clone>(
     alloc: &A,
     view: EditorState<A>,
@@ -42,7 +42,7 @@ fn all_applied<A: Allocator + Clone>(
     Ok(view)
 }
 
-// The stamps of operations, in their order.
+// The stamps of operations, in the same order.
 fn stamps_of<A: Allocator>(alloc: A, ops: &[Op<A>]) -> Result<Vec<Stamp, A>, AllocError>
     ensures { IfOk result (λ stamps. stamps.items ≡ stamps_of ops.now) }
 {
@@ -53,7 +53,7 @@ fn stamps_of<A: Allocator>(alloc: A, ops: &[Op<A>]) -> Result<Vec<Stamp, A>, All
     Ok(stamps)
 }
 
-// What became of an operation, from what its offer answered and what became ready by it.
+// The result of a take, from the result of the offer and the operations that became ready by it.
 fn taken_as<A: Allocator + Clone>(
     alloc: &A,
     offered: Offered,
@@ -70,8 +70,8 @@ fn taken_as<A: Allocator + Clone>(
     }
 }
 
-/// Notes what was released from an index on, tells what became of the operation that was offered,
-/// and says how many wait.
+/// Applies what was released from an index on, returns the result for the offered operation, and
+/// sets the number of operations that wait.
 pub(crate) fn outcome_of<A: Allocator + Clone>(
     alloc: &A,
     waiting: &HoldBack<Op<A>, A>,

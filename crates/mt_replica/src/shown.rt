@@ -1,4 +1,4 @@
-//! The session that is kept, and the places of tracks beside it.
+//! The session that an editor keeps, with the places of its tracks.
 
 ghost use Rattle.std.specs.Prelude.{◌≡◌, ℕ, map, IfOk};
 ghost use Rattle.std.specs.List.{sum_by};
@@ -19,7 +19,7 @@ use mt_tracklist::{Placed, TrackList};
 use session_state::ItemStates;
 use std::alloc::{AllocError, Allocator};
 
-/// The places of tracks in order, and the session.
+/// The places of tracks in tree order, and the session.
 #[derive(Drop)]
 pub(crate) struct VisibleSession<A: Allocator> {
     pub places: TrackList<A>,
@@ -41,7 +41,7 @@ fn refs_by_stamp<'a, A: Allocator, B: Allocator>(
     sorted_by_stamp(refs)
 }
 
-// The places that operations give, in their order.
+// The places that operations give, in the same order.
 fn places_of<A: Allocator, B: Allocator>(
     alloc: B,
     ops: &[&Op<A>],
@@ -56,9 +56,9 @@ fn places_of<A: Allocator, B: Allocator>(
     Ok(places)
 }
 
-/// What ready operations show, from the items that they leave, noted in whatever order, with this
-/// many others held: in n log n for n operations and items. `AllocError` where an allocation
-/// failed.
+/// The places and the session of ready operations, from the items after these, applied in any
+/// order, with this number of operations held. It costs n log n for n operations and items.
+/// `AllocError` when an allocation fails.
 pub(crate) fn shown_of<A: Allocator + Clone>(
     alloc: &A,
     ready: &[Op<A>],

@@ -1,4 +1,4 @@
-//! A log, and what an editor keeps beside it.
+//! A log, and the state that an editor keeps next to it.
 
 ghost use Rattle.std.specs.Prelude.{◌≡◌, ◌⊎◌, ℕ, is_some, IfOk, IfErr, IfSome, OnOk, None, Some};
 ghost use Rattle.std.specs.Prelude.{Ok, Err, true, false, if◌then◌else◌};
@@ -39,11 +39,11 @@ use mt_stamp::{Replica, Stamp};
 use std::alloc::{AllocError, Allocator};
 use std::marker::Model;
 
-// A log with the name of its editor, the items that its ready operations leave, where it is kept
-// the session that they show, its greatest clock, and the greatest number of that replica's
-// operations. What holds its operations back until they are ready is there once it has taken an
-// operation or has its session: an edit makes nothing else ready, and needs none. Seen as the name,
-// the log, and whether the session is kept.
+// A log with the name of its editor, the items after its ready operations, their session if it is
+// kept, the log's greatest clock, and the greatest number of that replica's operations. The
+// hold-back of its operations exists once it has taken an operation or has its session: an edit
+// makes no other operation ready, and needs none. Seen as the name, the log, and whether the
+// session is kept.
 #[derive(Drop)]
 pub(crate) struct State<A: Allocator> {
     name: Replica,
@@ -71,8 +71,8 @@ impl<A: Allocator> Model for State<A> {
         × (IsHeldOf s.log s.view.held × IfSome s.waiting (HoldsBack s.log)) };
 }
 
-// A state after a take, what became of the operation, and how many cells were joined, up to the
-// greatest number.
+// The state after a take, the result of the take, and the number of cells joined, at most the
+// greatest `u64`.
 #[derive(Drop)]
 pub(crate) struct Step<A: Allocator> {
     pub state: State<A>,
@@ -98,7 +98,7 @@ impl<A: Allocator> State<A> {
         log
     }
 
-    /// The session of its log, where it is kept.
+    /// The session of the log, if it is kept.
     pub fn session(&self) -> Option<&Session<A>>
         ensures { option_copied result ≡ (if self.now.shown then Some
             (session_of (operations self.now.named.log))
@@ -111,7 +111,7 @@ impl<A: Allocator> State<A> {
 }
 
 impl<A: Allocator + Clone> State<A> {
-    // The state of a log, from what stands beside it.
+    // The state of a log, from what is kept next to it.
     fn beside(
         name: Replica,
         log: Log<A>,
@@ -137,7 +137,7 @@ impl<A: Allocator + Clone> State<A> {
         }
     }
 
-    /// The state of a log. `AllocError` where an allocation failed.
+    /// The state of a log. `AllocError` when an allocation fails.
     pub fn of(alloc: &A, name: Replica, log: Log<A>) -> Result<Self, AllocError>
         ensures ok { IfOk result (λ state. state ≡ record
             { named = record { name = name; log = log }; shown = false }) }
@@ -146,7 +146,7 @@ impl<A: Allocator + Clone> State<A> {
         Ok(State::beside(name, log, None, EditorState::without_session(items)))
     }
 
-    /// The state of a log with its session. `AllocError` where an allocation failed.
+    /// The state of a log with its session. `AllocError` when an allocation fails.
     pub fn shown_of(alloc: &A, name: Replica, log: Log<A>) -> Result<Self, AllocError>
         ensures ok { IfOk result (λ state. state ≡ record
             { named = record { name = name; log = log }; shown = true }) }
@@ -177,7 +177,7 @@ impl<A: Allocator + Clone> State<A> {
         Ok(Stamp::new(self.clock + 1, self.name, self.seq + 1).unwrap())
     }
 
-    // The body that a change makes.
+    // The body that a change makes, or the first refusal.
     fn made_body(&self, change: &Change<A>) -> Result<Body<A>, EditorFault>
         ensures passes { IfOk result (λ body. body_refused (operations self.now.named.log)
             (edit_of change.now)
@@ -206,8 +206,8 @@ impl<A: Allocator + Clone> State<A> {
         Ok(body)
     }
 
-    /// The operation that a change makes, or its first refusal; `Memory` (0) where an allocation
-    /// failed.
+    /// The operation that a change makes, or its first refusal; `Memory` (0) when an allocation
+    /// fails.
     pub fn made(&self, change: &Change<A>) -> Result<Op<A>, EditorFault>
         ensures ok { IfOk result (λ op. made (operations self.now.named.log) self.now.named.name
             (edit_of change.now)
@@ -223,8 +223,8 @@ impl<A: Allocator + Clone> State<A> {
         Ok(Op::new(stamp, body).unwrap())
     }
 
-    /// The state with an operation that a change made of it, by which nothing else becomes ready.
-    /// `AllocError` where an allocation failed.
+    /// The state with an operation that a change made of it, which makes nothing else ready.
+    /// `AllocError` when an allocation fails.
     pub fn with(self, alloc: &A, op: &Op<A>) -> Result<Self, AllocError>
         requires made { IsMade self.named op.now }
         ensures ok { IfOk result (λ state. state ≡ record
@@ -239,7 +239,7 @@ impl<A: Allocator + Clone> State<A> {
             view,
             ..
         } = self;
-        // for the proof: that the log's operations rise by dot, and that the log is the one of them
+        // for the proof: that the log's operations rise by dot, and that the log is made of them
         let _ = log.runs();
         let view = view.apply(alloc, op)?;
         let waiting = made_in(&mut log, waiting, op)?;
@@ -253,8 +253,8 @@ impl<A: Allocator + Clone> State<A> {
         })
     }
 
-    /// What the log has under an operation's dot: nothing, the same operation (`true`), or another
-    /// one (`false`).
+    /// What the log has under an operation's dot: `None` for nothing, `true` for the same
+    /// operation, `false` for another one.
     pub fn found(&self, op: &Op<A>) -> Option<bool>
         ensures { Found self.now.named.log op.now result }
     {
@@ -266,8 +266,8 @@ impl<A: Allocator + Clone> State<A> {
         }
     }
 
-    /// The state with an operation under a new dot, what became of it, and how many cells that
-    /// joined. `AllocError` where an allocation failed.
+    /// The state with an operation under a new dot, the result of the take, and the number of cells
+    /// joined. `AllocError` when an allocation fails.
     pub fn taking(self, alloc: &A, op: Op<A>) -> Result<Step<A>, AllocError>
         requires new { map.get self.named.log (op_dot op) ≡ None }
         ensures state { IfOk result (λ step. step.state
@@ -322,8 +322,8 @@ fn add_copy<A: Allocator + Clone>(log: &mut Log<A>, op: &Op<A>) -> Result<(), Al
     }
 }
 
-// Adds an operation under a new dot to a log, and offers it to what holds the log's operations
-// back.
+// Adds an operation under a new dot to a log, and offers it to the hold-back of the log's
+// operations.
 fn taken_in<A: Allocator + Clone>(
     log: &mut Log<A>,
     waiting: &mut HoldBack<Op<A>, A>,
@@ -340,7 +340,7 @@ fn taken_in<A: Allocator + Clone>(
     ensures exact { OnOk result (IsHoldBack op_rules waiting.new.contents) }
 {
     add_copy(log, &op)?;
-    // for the proof: that the log's operations have stamps of their own
+    // for the proof: that the log's operations have distinct stamps
     let _ = log.runs();
     let offered = offer_new(waiting, op)?;
     // for the proof: the rule by which operations are held back
@@ -348,8 +348,8 @@ fn taken_in<A: Allocator + Clone>(
     Ok(offered)
 }
 
-// Adds a copy of an operation under a new dot to a log, and offers one to what holds the log's
-// operations back, where that is there.
+// Adds a copy of an operation under a new dot to a log, and offers another to the hold-back of the
+// log's operations, if there is one.
 fn made_in<A: Allocator + Clone>(
     log: &mut Log<A>,
     waiting: Option<HoldBack<Op<A>, A>>,
@@ -368,7 +368,7 @@ fn made_in<A: Allocator + Clone>(
         }
         None => {
             add_copy(log, op)?;
-            // for the proof: that the log's operations have stamps of their own
+            // for the proof: that the log's operations have distinct stamps
             let _ = log.runs();
             Ok(None)
         }

@@ -1,17 +1,18 @@
-//! What became of an operation that was taken.
+//! The result of a take.
 
 use mt_stamp::{List, Stamp};
 use std::alloc::{Allocator, Global};
 
-/// What became of an operation that was taken.
+/// The result of a take, that is, what happened to the operation.
 #[derive(Drop)]
 #[derive_where(Debug, PartialEq, Eq)]
 pub enum Taken<A: Allocator = Global> {
-    /// The same operation is in the log.
+    /// The log had the same operation before.
     Already,
-    /// It is in the log now and waits: it has no effect until what it needs is there.
+    /// The operation is now in the log and waits: it has no effect until the operations that it
+    /// needs are ready.
     Held,
-    /// It is in the log now and ready: these are the stamps of the operations that became ready by
-    /// it, rising, its own among them.
+    /// The operation is now in the log and ready. These are the stamps of the operations that
+    /// became ready by it, its own included, in rising order.
     Applied(List<Stamp, A>),
 }

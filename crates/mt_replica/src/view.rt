@@ -1,4 +1,4 @@
-//! The items that ready operations leave, and the session that they show.
+//! The items after ready operations, and their session.
 
 ghost use Rattle.std.specs.Prelude.{◌≡◌, ◌∷◌, ℕ, Some, None, Option, option_map, length, map, IfOk};
 ghost use Rattle.std.specs.Option.{option_copied};
@@ -18,9 +18,8 @@ use session_update::{add_place, located, update};
 use std::alloc::{AllocError, Allocator};
 use std::marker::Model;
 
-/// The items that operations leave which were noted one after another, and beside them, where it is
-/// kept, the session that they show. Seen as the operations, the last one first, and the number
-/// held that the session says.
+/// The items after operations that were applied one after another, and their session if it is kept.
+/// Seen as the operations, the last one first, and the number held that the session shows.
 #[derive(Drop)]
 pub(crate) struct EditorState<A: Allocator> {
     items: ItemStates<A>,
@@ -55,12 +54,12 @@ impl<A: Allocator> EditorState<A> {
     pub(crate) fn items(&self) -> &ItemStates<A>
         ensures { result.now ≡ self.now.ops }
     {
-        // for the proof: that the items are those of the view as a whole
+        // for the proof: that the items are those of the `EditorState` as a whole
         let _ = &self.shown;
         &self.items
     }
 
-    /// The session, where it is kept.
+    /// The session, if it is kept.
     pub(crate) fn session(&self) -> Option<&Session<A>>
         ensures value { option_copied result ≡ option_map (session_in self.now.ops) self.now.held }
         ensures applied { AreApplied self.now.ops }
@@ -73,7 +72,7 @@ impl<A: Allocator> EditorState<A> {
         }
     }
 
-    /// Has the session say, where it is kept, that this many operations are held.
+    /// Sets the number of held operations in the session, if it is kept.
     pub(crate) fn set_held(&mut self, held: u64)
         ensures { self.new ≡ record { ops = self.old.ops; held = option_map (λ h. held)
             self.old.held } }
@@ -87,8 +86,8 @@ impl<A: Allocator> EditorState<A> {
 }
 
 impl<A: Allocator + Clone> EditorState<A> {
-    /// The same with the session kept, which is read off the items: of these operations, noted in
-    /// whatever order, with this many others held. `AllocError` where an allocation failed.
+    /// This state with the session, which is read from the items: of these operations, applied in
+    /// any order, with this number of others held. `AllocError` when an allocation fails.
     pub(crate) fn show(self, alloc: &A, ready: &[Op<A>], held: u64) -> Result<Self, AllocError>
         requires same { (f : OpValue → ℕ) → sum_by f self.ops ≡ sum_by f ready.now }
         requires tree { IsTree (places_in ready.now) }
@@ -102,8 +101,8 @@ impl<A: Allocator + Clone> EditorState<A> {
         })
     }
 
-    /// The same with an operation noted, and the session mended by it where it is kept.
-    /// `AllocError` where an allocation failed.
+    /// The state with an operation applied, and the session updated if it is kept. `AllocError`
+    /// when an allocation fails.
     pub(crate) fn apply(self, alloc: &A, op: &Op<A>) -> Result<Self, AllocError>
         requires follows { CanApply self.ops op.now }
         ensures ok { IfOk result (λ view. view ≡ record { ops = op.now
@@ -126,7 +125,7 @@ impl<A: Allocator + Clone> EditorState<A> {
     }
 }
 
-// The items with an operation noted, and what they show.
+// The items with an operation applied, and the session that they show.
 fn apply_shown<A: Allocator + Clone>(
     alloc: &A,
     items: ItemStates<A>,

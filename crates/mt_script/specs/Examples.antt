@@ -1,4 +1,4 @@
--- Lines and what they ask for: what the definitions compute.
+-- Worked examples of lines and their edits.
 use Rattle.std.specs.Prelude.{◌≡◌, [], ◌∷◌, ◌++◌, Some, None, refl, codes}
 use Rattle.std.specs.Fmt.{digits}
 use Rattle.mt_stamp.specs.StampOrder.{Stamp}
@@ -11,7 +11,7 @@ use Rattle.mt_script.specs.Forms.{set_marker_length}
 pub empty_text : lines [] ≡ []
 empty_text = refl
 
--- an empty line and a remark count, and the last newline ends the last line
+-- an empty line and a remark count, and a final newline begins no new line
 pub counted_lines : lines (codes "a" ++ newline ∷ newline ∷ codes "# b" ++ newline ∷ []) ≡ codes "a"
     ∷ [] ∷ codes "# b" ∷ []
 counted_lines = refl
@@ -19,7 +19,7 @@ counted_lines = refl
 pub unended_line : lines (codes "a" ++ newline ∷ codes "b") ≡ codes "a" ∷ codes "b" ∷ []
 unended_line = refl
 
--- the second line made an item, the first none
+-- the second line added an item, the first none
 abbrev pub track : Stamp
 track = record { clock = 1; replica = record { 0 = 10 }; seq = 1 }
 
@@ -64,7 +64,7 @@ pub too_long : said one_item (codes "fade $2 0 1048577") ≡ None
 unfolding said set_fade item stamp number_below digits
 too_long = refl
 
--- a marker's length of 0 is one
+-- a marker's length of 0 is allowed
 pub point : said one_item (codes "marker-length $2 0") ≡ Some (SetMarkerLength track 0)
 unfolding said set_marker_length item stamp number_below digits
 point = refl

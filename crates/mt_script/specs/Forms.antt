@@ -1,6 +1,6 @@
--- The fourteen forms of a line that asks for a change (profile). The word that a line begins with,
--- up to its first space, says which form it has; of the fields after it each but the last is a word
--- that one space ends, and the last is all up to the end of the line.
+-- The fourteen forms of a line that requests a change (profile). The word at the beginning of a
+-- line, up to its first space, determines the form. Of the fields after it, each except the last is
+-- a word that ends at one space, and the last goes up to the end of the line.
 use Rattle.std.specs.Prelude.{ℕ, List, [], ◌∷◌, Option, Some, None, if◌then◌else◌, codes}
 use Rattle.std.specs.Str.{bytes_eq, is_utf8}
 use Rattle.mt_stamp.specs.StampOrder.{Stamp}
@@ -11,14 +11,14 @@ use Rattle.base_text.specs.Cutting.{◌>>=◌, cut}
 use Rattle.mt_script.specs.Words.{space, number, fade_length, gain, item, after, digest, switch}
 use Rattle.mt_script.specs.Words.{title}
 
--- a word that a space ends, read, and what follows the space
+-- a word up to a space, read, and the text after the space
 abbrev pub field : {X : Type 0} → (List ℕ → Option X) → List ℕ → Option (X × List ℕ)
 field read text = do
   parts ← cut space text
   value ← read parts.0
   Some (value, parts.1)
 
--- what each line so far made, if anything: the items that `$1`, `$2` and so on name
+-- the item that each line so far added, if any: the items that `$1`, `$2` and so on name
 abbrev pub Items : Type 0
 Items = List (Option Stamp)
 
@@ -124,7 +124,7 @@ set_marker_length items text = do
   len ← number marker.1
   Some (SetMarkerLength marker.0 len)
 
--- a form: the word that a line begins with, and how what follows it is read
+-- a form: the word at the beginning of a line, and the reader of the rest
 abbrev pub Form : Type 0
 Form = List ℕ × (Items → List ℕ → Option Edit)
 
@@ -145,19 +145,19 @@ forms =
     (codes "fade", set_fade) ∷
     (codes "marker-length", set_marker_length) ∷ []
 
--- what the text says by the form whose word this is
+-- the edit of the rest of a line, by the form with this word
 abbrev pub said_by : List Form → List ℕ → Items → List ℕ → Option Edit
 said_by [] word items text = None
 said_by (form ∷ others) word items text = if bytes_eq word form.0 then form.1 items text else
     said_by others word items text
 
--- what a line says by the form of its first word
+-- the edit of a line, by the form of its first word
 unfoldable pub said : Items → List ℕ → Option Edit
 said items line = do
   parts ← cut space line
   said_by forms parts.0 items parts.1
 
--- What a line asks for. One that is not UTF-8 has none of the forms: their words are ASCII, and a
--- title is UTF-8.
+-- The edit that a line requests. A line that is not UTF-8 has none of the forms: their words are
+-- ASCII, and a title is UTF-8.
 abbrev pub asked : Items → List ℕ → Option Edit
 asked items line = if is_utf8 line then said items line else None

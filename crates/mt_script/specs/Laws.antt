@@ -1,4 +1,4 @@
--- What holds of the words and lines of scripts.
+-- Laws of the words and lines of scripts.
 use Rattle.std.specs.Prelude.{◌≡◌, ◌≢◌, ◌<◌, ◌≤◌, ◌^◌, ◌↔◌, ◌==◌, ℕ, List, [], ◌∷◌, ◌++◌, length}
 use Rattle.std.specs.Prelude.{Some, if◌then◌else◌}
 use Rattle.std.specs.List.{AllByRecursion, flat_map}
@@ -25,8 +25,8 @@ IsOneLine line = AllByRecursion (λ b. b ≢ newline) line
 abbrev pub ended : List (List ℕ) → List ℕ
 ended ls = flat_map (λ line. line ++ newline ∷ []) ls
 
--- Lines that are written, each ended by a newline but perhaps the last, are the lines that are
--- read.
+-- Lines written with a newline after each, perhaps without the one after the last, are read back as
+-- the same lines.
 abbrev pub LinesAreRead : Type 0
 LinesAreRead = (ls : List (List ℕ)) (last : List ℕ) → AllByRecursion IsOneLine ls → IsOneLine last
     → lines (ended ls ++ last) ≡ ls ++ (if length last == 0 then [] else last ∷ [])

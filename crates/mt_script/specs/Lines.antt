@@ -1,10 +1,10 @@
--- Which lines of a script ask for nothing (profile).
+-- The lines of a script that request nothing (profile).
 use Rattle.std.specs.Prelude.{ℕ, Bool, ◌==◌, ◌||◌, List, length, slice_index}
 
--- what begins a remark
+-- the first byte of a remark
 abbrev pub sharp : ℕ
 sharp = 35
 
--- whether the line asks for nothing: it is empty, or a remark, of whatever bytes
+-- whether a line requests nothing: it is empty, or a remark, of any bytes
 abbrev pub is_silent : List ℕ → Bool
 is_silent line = (length line == 0) || (slice_index line 0 == sharp)

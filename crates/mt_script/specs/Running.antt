@@ -1,4 +1,5 @@
--- Working words for the contracts of the functions below `run`: no part of what a script is.
+-- Working definitions for the contracts of the functions below `run`; a script is defined without
+-- them.
 use Rattle.std.specs.Prelude.{◌≡◌, ◌≤◌, ℕ, List, [], ◌∷◌, ◌++◌, length, Option, Some, None, Result}
 use Rattle.std.specs.Prelude.{Ok, Err}
 use Rattle.mt_stamp.specs.declared.name.Replica.{Replica}
@@ -12,7 +13,7 @@ use Rattle.mt_script.specs.Forms.{Items}
 use Rattle.mt_script.specs.Script.{made_by_line, made_by_lines, item_made, scripted_in}
 use Rattle.mt_script.specs.Script.{kept_with_ops}
 
--- what a line, and what the lines that are left, make in an editor
+-- the operations that a line, and that the remaining lines, make in an editor
 abbrev pub line_from : Option LogMap → Replica → Items → List ℕ → Result (List Op) ScriptFault
 line_from None name items line = Err Failed
 line_from (Some log) name items line = made_by_line (operations log) name items line
@@ -28,7 +29,7 @@ lines_from (Some log) name items left = made_by_lines log name items left
 abbrev pub lines_in : Editor → Items → List (List ℕ) → Result (List Op) ScriptFault
 lines_in kept items left = lines_from kept.log kept.name items left
 
--- what a function answers is what was made, or that an allocation failed
+-- a function returns the operations made, or an error for a failed allocation
 abbrev pub Gives : {X : Type 0} → (X → List Op → Type 0) → Result (List Op) ScriptFault
     → Result X ScriptFault → Type 0
 Gives P made (Ok x) = (ops : List Op) × ((made ≡ Ok ops) × P x ops)
@@ -37,7 +38,8 @@ Gives P made (Err Failed) = made ≡ Err Failed
 Gives P made (Err (BadLine line)) = made ≡ Err (BadLine line)
 Gives P made (Err (Refused line cause)) = made ≡ Err (Refused line cause)
 
--- one operation or none, which the editor then holds, and the item that it makes stands in the list
+-- one operation or none, which the editor then has, and the item that it adds, which is appended to
+-- the list
 pub record LineMade (kept : Editor) (items : Items) (new : Editor) (more : Items) (count : ℕ)
     (ops : List Op) : Type 0 where
   pub counted : count ≡ length ops
@@ -57,7 +59,7 @@ abbrev pub onto : List Op → Result (List Op) ScriptFault → Result (List Op) 
 onto ops (Ok more) = Ok (ops ++ more)
 onto ops (Err fault) = Err fault
 
--- where the loop is: the editor holds `ops` beside what it held, and what is left makes the rest
+-- the state of the loop: the editor has `ops` in addition, and the remaining text makes the rest
 pub record Reached (kept : Editor) (text : List ℕ) (now : Editor) (items : Items) (count : ℕ)
     (rest : List ℕ) : Type 0 where
   pub ops : List Op

@@ -1,4 +1,4 @@
--- What a script makes (profile).
+-- The operations that a script makes (profile).
 use Rattle.std.specs.Prelude.{◌≡◌, ◌≢◌, ℕ, suc, List, [], ◌∷◌, ◌++◌, length, Option, Some, None}
 use Rattle.std.specs.Prelude.{Result, Ok, Err, if◌then◌else◌}
 use Rattle.mt_stamp.specs.declared.name.Replica.{Replica}
@@ -16,7 +16,7 @@ use Rattle.base_text.specs.Cutting.{lines}
 use Rattle.mt_script.specs.Lines.{is_silent}
 use Rattle.mt_script.specs.Forms.{Items, asked}
 
--- the second step, where the first is not refused
+-- the second step, if the first is not refused
 infixl 10 ◌>>=◌
 abbrev pub ◌>>=◌ : {X Y : Type 0} → Result X ScriptFault → (X → Result Y ScriptFault)
     → Result Y ScriptFault
@@ -25,7 +25,7 @@ abbrev pub ◌>>=◌ : {X Y : Type 0} → Result X ScriptFault → (X → Result
 
 -- ---- one line
 
--- what an edit comes to at the line of this number: at most one operation
+-- the result of an edit at the line of this number: at most one operation
 abbrev pub made_at : ℕ → Result Op EditorFault → Result (List Op) ScriptFault
 made_at line (Ok op) = Ok (op ∷ [])
 made_at line (Err cause) = Err (Refused line cause)
@@ -34,13 +34,13 @@ abbrev pub asked_at : ℕ → List Op → Replica → Option Edit → Result (Li
 asked_at line ops name None = Err (BadLine line)
 asked_at line ops name (Some edit) = made_at line (made ops name edit)
 
--- What a line makes of a set, where each line before it made what `items` says; it is the next
--- line, counted from 1.
+-- The operations that a line makes of a set, with the items that the lines before it added; it is
+-- the next line, counted from 1.
 abbrev pub made_by_line : List Op → Replica → Items → List ℕ → Result (List Op) ScriptFault
 made_by_line ops name items line = if is_silent line then Ok [] else asked_at (suc (length items))
     ops name (asked items line)
 
--- the item that a line made: an operation that adds an item makes it, under its own stamp
+-- the item that a line added: an operation that adds an item does so under its own stamp
 abbrev pub item_made : List Op → Option Stamp
 item_made [] = None
 item_made (op ∷ ops) = if adds_item op.act then Some op.stamp else None
@@ -52,7 +52,8 @@ abbrev pub with_ops : LogMap → List Op → LogMap
 with_ops log [] = log
 with_ops log (op ∷ ops) = with_ops (with_op log op) ops
 
--- what the lines make, each of the set with the operations before it, or the first refusal
+-- the operations of the lines, each made of the set with the operations before it, or the first
+-- refusal
 abbrev pub made_by_lines : LogMap → Replica → Items → List (List ℕ) → Result (List Op) ScriptFault
 made_by_lines log name items [] = Ok []
 made_by_lines log name items (line ∷ others) = do
@@ -64,13 +65,13 @@ made_by_lines log name items (line ∷ others) = do
 abbrev pub scripted : LogMap → Replica → List ℕ → Result (List Op) ScriptFault
 scripted log name text = made_by_lines log name [] (lines text)
 
--- ---- what a run answers and leaves
+-- ---- the result and the state after a run
 
 abbrev pub scripted_from : Option LogMap → Replica → List ℕ → Result (List Op) ScriptFault
 scripted_from None name text = Err Failed
 scripted_from (Some log) name text = scripted log name text
 
--- what a script comes to in an editor, which may have failed
+-- the result of a script in an editor, which may have failed
 abbrev pub scripted_in : Editor → List ℕ → Result (List Op) ScriptFault
 scripted_in kept text = scripted_from kept.log kept.name text
 
@@ -78,18 +79,18 @@ abbrev pub counted : Result (List Op) ScriptFault → Result ℕ ScriptFault
 counted (Ok ops) = Ok (length ops)
 counted (Err fault) = Err fault
 
--- A run answers how many operations the script makes, or its refusal; or that an allocation failed,
--- which a failed editor does not try.
+-- A run returns the number of operations that the script makes, or its refusal; or an error for a
+-- failed allocation, which a failed editor does not try.
 abbrev pub RunGives : Editor → List ℕ → Result ℕ ScriptFault → Type 0
 RunGives kept text (Err Memory) = kept.log ≢ None
 RunGives kept text result = result ≡ counted (scripted_in kept text)
 
--- how many, of an answer that goes with something else
+-- the number in a result that has another value too
 abbrev pub count_of : {X : Type 0} → Result (X × ℕ) ScriptFault → Result ℕ ScriptFault
 count_of (Ok made) = Ok made.1
 count_of (Err fault) = Err fault
 
--- what an editor holds with more operations
+-- the editor with more operations
 abbrev pub kept_with_ops : Editor → List Op → Editor
 kept_with_ops kept [] = kept
 kept_with_ops kept (op ∷ ops) = kept_with_ops (kept_with kept op) ops
@@ -98,8 +99,8 @@ abbrev pub kept_with_all : Editor → Result (List Op) ScriptFault → Editor
 kept_with_all kept (Ok ops) = kept_with_ops kept ops
 kept_with_all kept (Err fault) = kept
 
--- What the editor holds after it: a copy with all that the script makes, or after a refusal what it
--- held.
+-- The editor after a run: a copy with all operations that the script makes, or after a refusal the
+-- same editor.
 abbrev pub after_run : Editor → List ℕ → Result ℕ ScriptFault → Editor
 after_run kept text (Ok count) = kept_with_all (copied kept) (scripted_in kept text)
 after_run kept text (Err fault) = kept

@@ -1,5 +1,5 @@
--- The words of a script's lines, and what each says (profile): none where it says nothing of its
--- kind.
+-- The words of a script's lines and their values (profile): none for a text that is not such a
+-- word.
 use Rattle.std.specs.Prelude.{ℕ, ◌+◌, ◌-◌, ◌^◌, Bool, true, false, ◌==◌, ◌&&◌, nat_lt, List, drop}
 use Rattle.std.specs.Prelude.{slice_get, slice_index, Option, Some, None, if◌then◌else◌, codes}
 use Rattle.std.specs.Option.{option_map, option_flatten}
@@ -22,7 +22,7 @@ use Rattle.mt_opcodec.specs.OpReading.{is_stamp}
 
 -- ---- cutting
 
--- what ends a word, and the signs inside words: `$` before the number of a line, `/` in a gain
+-- the end of a word, and the signs inside words: `$` before the number of a line, `/` in a gain
 abbrev pub space : ℕ
 space = 32
 
@@ -34,8 +34,7 @@ stroke = 47
 
 -- ---- numbers
 
--- the number below the limit that the text is the decimal spelling of: digits alone, and no leading
--- zero
+-- the number below the limit with this decimal spelling: digits alone, and no leading zero
 unfoldable pub number_below : ℕ → List ℕ → Option ℕ
 number_below limit text =
     if nat_lt (digits_value 10 text) limit && bytes_eq text (decimal (digits_value 10 text))
@@ -46,7 +45,7 @@ number_below limit text =
 abbrev pub number : List ℕ → Option ℕ
 number text = number_below (2 ^ 32) text
 
--- how many frames a fade lasts, which are not too many
+-- the number of frames of a fade, at most the greatest length
 abbrev pub fade_length : List ℕ → Option ℕ
 fade_length text = number_below (longest_fade + 1) text
 
@@ -63,7 +62,7 @@ gain text = do
 
 -- ---- names
 
--- the three parts of `clock.seq.replica`, be they spelled as they must or not
+-- the three parts of `clock.seq.replica`, whether spelled as they must be or not
 abbrev pub parts_of_stamp : List ℕ → Option Stamp
 parts_of_stamp text = do
   clock ← cut point text
@@ -72,22 +71,22 @@ parts_of_stamp text = do
   Some (record { clock = digits_value 10 clock.0; replica = record
       { 0 = from_be_bytes w128 replica }; seq = digits_value 10 seq.0 })
 
--- whether a stamp has these parts
+-- whether the parts are in the ranges of a stamp
 abbrev pub is_moment : Stamp → Bool
 is_moment m = nat_lt m.replica.0 (2 ^ 128) && is_stamp m
 
 abbrev pub spelled_so : List ℕ → Stamp → Option Stamp
 spelled_so text m = if is_moment m && bytes_eq text (stamp_text m) then Some m else None
 
--- the stamp whose text this is
+-- the stamp with this text
 unfoldable pub stamp : List ℕ → Option Stamp
 stamp text = parts_of_stamp text >>= spelled_so text
 
--- the item that the line of this number made, from the items that each line so far made, if any
+-- the item that the line of this number added, from the items that each line so far added, if any
 abbrev pub item_of_line : List (Option Stamp) → ℕ → Option Stamp
 item_of_line items line = if line == 0 then None else option_flatten (slice_get items (line - 1))
 
--- ITEM: a stamp's text, or `$` and the number of an earlier line that made an item
+-- ITEM: a stamp's text, or `$` and the number of an earlier line that added an item
 unfoldable pub item : List (Option Stamp) → List ℕ → Option Stamp
 item items text =
     if slice_index text 0 == dollar
@@ -101,7 +100,7 @@ after items text =
     then Some None
     else option_map (λ track. Some track) (item items text)
 
--- ---- what else a line says
+-- ---- the other words
 
 -- DIGEST: 64 hex digits in either case
 unfoldable pub digest : List ℕ → Option Digest
@@ -115,6 +114,6 @@ switch text =
     else if bytes_eq text (codes "off") then Some false
     else None
 
--- TITLE: all up to the end of the line
+-- TITLE: the rest of the line
 abbrev pub title : List ℕ → Option (List ℕ)
 title text = if is_title text then Some text else None

@@ -1,4 +1,4 @@
-//! Why a script is refused.
+//! The refusals of a script.
 
 ghost use Rattle.std.specs.Prelude.{◌≡◌};
 ghost use Rattle.mt_script.specs.Faults.{number_of};
@@ -8,26 +8,26 @@ use mt_replica::EditorFault;
 use std::alloc::{AllocError, AllocFailed};
 use thiserror::Error;
 
-/// Why a script is refused. Each refusal has a number that never changes. Lines are counted from 1;
-/// empty lines and remarks count.
+/// A refusal of a script. Each has a number that never changes. Lines are counted from 1; empty
+/// lines and remarks count.
 #[derive(Clone, Copy, Debug, PartialEq, Eq, Error)]
 pub enum ScriptFault {
-    /// A growth was refused.
+    /// An allocation failed.
     #[error("out of memory")]
     Memory,
-    /// A growth was refused earlier, and the editor holds nothing for good.
+    /// An allocation failed earlier, and the editor has had no log since.
     #[error("the editor has failed")]
     Failed,
     /// The line of this number has none of the forms of a line.
     #[error("line {0} is no line of a script")]
     BadLine(usize),
-    /// The change that the line of this number asks for is refused, for this cause.
+    /// The editor refuses the change of the line of this number, for this cause.
     #[error("line {0}: {1}")]
     Refused(usize, EditorFault),
 }
 
 impl ScriptFault {
-    /// The refusal's number: 0, 20, 41 or 42. The cause of a `Refused` has a number of its own.
+    /// The refusal's number: 0, 20, 41 or 42. The cause of a `Refused` has a separate number.
     pub fn number(&self) -> u8
         ensures { result ≡ number_of self.now }
     {

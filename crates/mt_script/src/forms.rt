@@ -17,7 +17,7 @@ use mt_replica::Change;
 use mt_stamp::Stamp;
 use std::alloc::{AllocError, Allocator};
 
-// The title of a text, if it is one.
+// The title of a text, if the text is a title.
 fn title_of<A: Allocator>(alloc: A, text: &str) -> Result<Option<Title<A>>, AllocError>
     ensures { IfOk result (λ read. read ≡ title text.now) }
 {
@@ -217,7 +217,7 @@ fn set_marker_length<A: Allocator>(items: &[Option<Stamp>], text: &str) -> Optio
     Some(Change::SetMarkerLength { marker, len })
 }
 
-// What the rest of a line asks for whose first word this is.
+// The change of a line with this first word, from the rest of the line.
 fn change_by<A: Allocator>(
     alloc: A,
     items: &[Option<Stamp>],
@@ -260,7 +260,7 @@ fn change_by<A: Allocator>(
     }
 }
 
-// What a line asks for, where it is UTF-8.
+// The change of a line in UTF-8, if it has one of the forms.
 #[tactic(auto, unfolding(crate::specs::Forms::said))]
 fn said_change<A: Allocator>(
     alloc: A,
@@ -275,7 +275,7 @@ fn said_change<A: Allocator>(
     }
 }
 
-// What a line asks for, if it has one of the forms.
+// The change of a line, if it has one of the forms.
 pub(crate) fn change_of<A: Allocator>(
     alloc: A,
     items: &[Option<Stamp>],

@@ -1,4 +1,4 @@
-//! Scripts of edits: texts that say, a line each, what an editor is to do to a session.
+//! Scripts of edits: texts that request changes of a session from an editor, one change per line.
 //!
 //! ```rust
 //! use mt_opcodec::Log;
@@ -20,11 +20,11 @@
 //!     let session = editor.session().ok_or("an editor who has not failed")?;
 //!     assert_eq!(rt; session.tracks.items()[0].clips.items()[0].len, 20);
 //!     assert_eq!(rt; session.markers.items()[0].at, 480);
-//!     // all or none: the fault tells the line
+//!     // all or none: the fault gives the line
 //!     let text = b"add-marker 960 Weather\nadd-marker noon Sport\n";
 //!     assert_eq!(rt; run(rt.alloc(), &mut editor, text), Err(ScriptFault::BadLine(2)));
 //!     assert_eq!(rt; editor.log().map(|log| log.len()), Some(4));
-//!     // a draft keeps no session, and is given and answered by value
+//!     // a draft keeps no session; it is passed and returned by value
 //!     let draft = Draft::new(rt.alloc(), Replica(11), Log::new(rt.alloc()))?;
 //!     let (made, count) = run_draft(rt.alloc(), draft, SCRIPT)?;
 //!     assert_eq!(rt; count, 4);
@@ -33,24 +33,25 @@
 //! }
 //! ```
 //!
-//! `run(alloc, &mut editor, text)?` makes these changes in order and answers 4: a track `Voice` at
-//! the head of the track order; on the track that line 2 made a clip, from frame 0 of the session
+//! `run(alloc, &mut editor, text)?` makes these changes in order and returns 4: a track `Voice` at
+//! the head of the track order; on the track that line 2 made, a clip from frame 0 of the session
 //! on, of 20 frames of the recording with that SHA-256, from its frame 10 on; the gain 1/2 for the
 //! clip that line 3 made; and a marker at frame 480. The first line is a remark: it makes nothing,
 //! but is counted, as an empty line is.
 //!
 //! All or none: at the first line that has none of the fourteen forms (`BadLine`), or whose change
-//! the editor refuses (`Refused`), the editor is as it was, and the fault tells the line, counted
-//! from 1. `specs/Forms.antt` and `specs/Words.antt` are the grammar, `specs/Lines.antt` how a text
-//! is cut, `specs/Script.antt` what is made. What a log's text says of an act is such a line, but
-//! for a `remove`, of which it lists the tags (`laws::acts_read_back`).
+//! the editor refuses (`Refused`), the editor is unchanged, and the fault gives the line, counted
+//! from 1. `specs/Forms.antt` and `specs/Words.antt` define the grammar, `specs/Lines.antt` the
+//! lines that request nothing, and `specs/Script.antt` the operations made; base_text defines how a
+//! text is cut into lines. The text of an act in a listing of a log is such a line, except for a
+//! `remove`, whose text lists the tags (`laws::acts_read_back`).
 //!
-//! `run_draft(alloc, draft, text)?` makes the same in a draft, and answers it with how many they
-//! are; at a refusal the draft is gone.
+//! `run_draft(alloc, draft, text)?` makes the same changes in a draft, and returns the draft with
+//! their number; at a refusal the draft is dropped.
 //!
-//! What `run_draft` costs: its edits, and a walk over the text with no copy of it but of the
-//! titles. `run` makes a draft of the editor, which is a copy of its log, runs the script in it,
-//! and makes an editor of it, with its session.
+//! `run_draft` costs its edits and one pass over the text, of which it copies only the titles.
+//! `run` makes a draft of the editor, which is a copy of its log, runs the script in it, and makes
+//! an editor of it, with its session.
 #![tactic(auto)]
 
 mod fault;

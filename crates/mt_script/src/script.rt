@@ -25,8 +25,8 @@ fn item_of<A: Allocator>(op: &Op<A>) -> Option<Stamp>
     }
 }
 
-// Makes what a line asks for, notes which item that is, and answers how many operations it took:
-// one or none.
+// Makes the change of a line, records which item it adds, and returns the number of operations
+// made: one or none.
 fn make_line<A: Allocator + Clone>(
     alloc: A,
     draft: &mut Draft<A>,
@@ -53,7 +53,7 @@ fn make_line<A: Allocator + Clone>(
     }
 }
 
-// Makes what the lines of a text ask for, and answers how many operations they took.
+// Makes the changes of the lines of a text, and returns the number of operations made.
 fn make_lines<A: Allocator + Clone>(
     alloc: A,
     draft: &mut Draft<A>,
@@ -73,14 +73,14 @@ fn make_lines<A: Allocator + Clone>(
     Ok(count)
 }
 
-/// Makes the changes of a script in order in a draft, and answers the draft with what they made,
-/// and how many they are: as `run` does in an editor, with no copy of the draft and no session.
-/// Titles and what the lines made are kept in memory of `alloc`.
+/// Makes the changes of a script in order in a draft, and returns the draft with them and their
+/// number: as `run` does in an editor, but without copying the draft and without a session. Titles
+/// and the items made by the lines are kept in memory of `alloc`.
 ///
-/// Refused as `Failed` (20) where the draft has failed; then at the first line at fault, counted
-/// from 1, as `BadLine` (41) where it has none of the forms, and as `Refused` (42) where the draft
-/// refuses its change for another cause than memory, with that cause; and as `Memory` (0) where
-/// there is none. After every refusal the draft is gone. The draft that is answered has not failed.
+/// Fails with `Failed` (20) if the draft has failed; at the first line at fault, counted from 1,
+/// with `BadLine` (41) if it has none of the forms, and with `Refused` (42) and the cause if the
+/// draft refuses its change for a cause other than memory; and with `Memory` (0) when out of
+/// memory. After every error the draft is dropped. A returned draft has not failed.
 pub fn run_draft<A: Allocator + Clone>(
     alloc: A,
     draft: Draft<A>,
@@ -102,13 +102,13 @@ pub fn run_draft<A: Allocator + Clone>(
     }
 }
 
-/// Makes the changes of a script in order, and answers how many. Titles and what the lines made are
-/// kept in memory of `alloc`.
+/// Makes the changes of a script in order, and returns their number. Titles and the items made by
+/// the lines are kept in memory of `alloc`.
 ///
-/// Refused as `Failed` (20) where the editor has failed; then at the first line at fault, counted
-/// from 1, as `BadLine` (41) where it has none of the forms, and as `Refused` (42) where the editor
-/// refuses its change for another cause than memory, with that cause; and as `Memory` (0) where
-/// there is none. The changes are made in a draft: after every refusal the editor is as it was.
+/// Fails with `Failed` (20) if the editor has failed; at the first line at fault, counted from 1,
+/// with `BadLine` (41) if it has none of the forms, and with `Refused` (42) and the cause if the
+/// editor refuses its change for a cause other than memory; and with `Memory` (0) when out of
+/// memory. The changes are made in a draft: after every error the editor is unchanged.
 pub fn run<A: Allocator + Clone>(
     alloc: A,
     editor: &mut Editor<A>,

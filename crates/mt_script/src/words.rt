@@ -10,14 +10,14 @@ use itoa::Buffer;
 use mt_op::{Digest, Gain, LONGEST_FADE};
 use mt_stamp::Stamp;
 
-// The word before the first space, and what follows the space.
+// The word before the first space, and the text after that space.
 pub(crate) fn cut_word(text: &str) -> Option<(&str, &str)>
     ensures { option_map (λ parts. (parts.0.now, parts.1.now)) result ≡ cut space text.now }
 {
     text.split_once(' ')
 }
 
-// The number that a text is the decimal spelling of: no sign and no leading zero.
+// The number with this decimal spelling, without sign and leading zeros.
 pub(crate) fn number_of(text: &str) -> Option<u32>
     ensures { result ≡ number text.now }
 {
@@ -32,7 +32,7 @@ pub(crate) fn number_of(text: &str) -> Option<u32>
     }
 }
 
-// The same of at most 65,535.
+// The number of at most 65,535 with this decimal spelling.
 fn small_number_of(text: &str) -> Option<u16>
     ensures { result ≡ number_below (2 ^ 16) text.now }
 {
@@ -45,7 +45,7 @@ fn small_number_of(text: &str) -> Option<u16>
     Some(number as u16)
 }
 
-// The same of at most as many frames as a fade may last.
+// The number of frames of a fade, at most the greatest length, with this decimal spelling.
 pub(crate) fn fade_length_of(text: &str) -> Option<u32>
     ensures { result ≡ fade_length text.now }
 {
@@ -58,7 +58,7 @@ pub(crate) fn fade_length_of(text: &str) -> Option<u32>
     Some(number)
 }
 
-// What stands before the first `/`, and what follows it.
+// The texts before and after the first `/`.
 fn cut_gain(text: &str) -> Option<(&str, &str)>
     ensures { option_map (λ parts. (parts.0.now, parts.1.now)) result ≡ cut stroke text.now }
 {
@@ -76,14 +76,14 @@ pub(crate) fn gain_of(text: &str) -> Option<Gain>
     Gain::new(num, den).ok()
 }
 
-// The stamp whose text this is.
+// The stamp with this text.
 fn stamp_of(text: &str) -> Option<Stamp>
     ensures { result ≡ stamp text.now }
 {
     Stamp::read(text).ok()
 }
 
-// The item that the line of this number made, if there is one.
+// The item that the line of this number added, if it added one.
 fn item_of_line(items: &[Option<Stamp>], line: u32) -> Option<Stamp>
     ensures { result ≡ item_of_line items.now line }
 {
@@ -91,7 +91,7 @@ fn item_of_line(items: &[Option<Stamp>], line: u32) -> Option<Stamp>
     *items.get(before)?
 }
 
-// The item that a text names: by its stamp, or by the number of an earlier line, after a `$`.
+// The item that a text names: by its stamp, or by a `$` and the number of an earlier line.
 #[tactic(auto, unfolding(crate::specs::Words::item))]
 pub(crate) fn item_of(items: &[Option<Stamp>], text: &str) -> Option<Stamp>
     ensures { result ≡ item items.now text.now }
@@ -102,7 +102,7 @@ pub(crate) fn item_of(items: &[Option<Stamp>], text: &str) -> Option<Stamp>
     }
 }
 
-// The track that a text names, or the head of the track order.
+// The track that a text names, or `None` for the head of the track order.
 #[tactic(auto, unfolding(crate::specs::Words::after))]
 pub(crate) fn after_of(items: &[Option<Stamp>], text: &str) -> Option<Option<Stamp>>
     ensures { result ≡ after items.now text.now }
@@ -114,7 +114,7 @@ pub(crate) fn after_of(items: &[Option<Stamp>], text: &str) -> Option<Option<Sta
     Some(Some(track))
 }
 
-// The digest that a text spells.
+// The digest with these hex digits.
 #[tactic(auto, unfolding(crate::specs::Words::digest))]
 pub(crate) fn digest_of(text: &str) -> Option<Digest>
     ensures { result ≡ digest text.now }

@@ -1,5 +1,5 @@
--- What a session shows, of its ready operations alone. Working definitions: those of Session.antt,
--- of the ready operations in any order.
+-- Working definitions: the session from its ready operations alone, in any order, by the
+-- definitions of Session.antt.
 use Rattle.std.specs.Prelude.{Bool, false, ◌&&◌, List, [], map, Option, option_map, unwrap_or}
 use Rattle.std.specs.List.{filter, filter_map}
 use Rattle.std.specs.declared.cmp.Ordering.{Ordering}
@@ -82,7 +82,7 @@ module _ (r : List Op) where
   abbrev pub places_in : List TreePlace
   places_in = filter_map place_added r
 
-  -- the operations that give tracks their places, in the order of these
+  -- the operations that give tracks their places, in the order of the places
   abbrev pub by_place : Op → Op → Ordering
   by_place a b = tree_cmp places_in a.stamp b.stamp
 

@@ -77,7 +77,7 @@ pub wrong_role : session_of (news ∷ record { stamp = by 1 11 1; act = AddMarke
         ∷ []; held = 1 }
 wrong_role = refl
 
--- a marker that is moved while it is removed comes back where it was moved to
+-- a marker that is moved while it is removed is restored at the new position
 pub moved_and_removed : session_of (news ∷ record { stamp = by 5 11 1; act = MoveMarker (by 1 10 1)
     70 } ∷ remove_by 5 10 5 (by 1 10 1 ∷ []) ∷ restore_by 6 10 6 ∷ [])
     ≡ record { tracks = []; markers = record { marker = by 1 10 1; at = 70; len = 0; title = codes
@@ -113,7 +113,7 @@ pub moved_track : titles_of (moves 4 10 4 (by 1 10 1) (Some (by 2 10 2)) ∷ p_q
     ∷ codes "p" ∷ codes "r" ∷ []
 moved_track = refl
 
--- a track that is moved twice stands once
+-- a track that is moved twice appears once
 pub moved_tracks : titles_of (moves 4 11 1 (by 1 10 1) (Some (by 3 10 3))
     ∷ moves 4 10 4 (by 1 10 1) (Some (by 2 10 2)) ∷ p_q_r) ≡ codes "q" ∷ codes "r" ∷ codes "p" ∷ []
 moved_tracks = refl
@@ -137,7 +137,7 @@ abbrev pub p_q : List Op
 p_q = track 1 10 1 None (codes "p") ∷ track 2 10 2 (Some (by 1 10 1)) (codes "q")
     ∷ clip_on (by 1 10 1) ∷ []
 
--- a clip whose track is absent is not shown, and held is 0
+-- a clip whose track is absent is not shown, and does not count as held
 pub removed_track_hides_its_clip : session_of (remove_by 3 10 3 (by 1 10 1 ∷ []) ∷ p_q)
     ≡ record { tracks = record { track = by 2 10 2; title = codes "q"; gain = unchanged; mute =
     false; clips = [] } ∷ []; markers = []; held = 0 }
@@ -153,7 +153,7 @@ moved_to_70 = record { stamp = by 5 11 2; act = MoveClip (by 2 11 1) (by 1 10 1)
 abbrev pub clip_removed : Op
 clip_removed = record { stamp = by 5 10 5; act = Remove (by 2 11 1) (by 2 11 1 ∷ []) }
 
--- a clip that is moved while it is removed is absent, and comes back where it was moved to
+-- a clip that is moved while it is removed is absent, and is restored at the new position
 pub moved_and_removed_clip : clips_of (clip_removed ∷ moved_to_70 ∷ p_q) ≡ [] ∷ [] ∷ []
 moved_and_removed_clip = refl
 
@@ -168,7 +168,7 @@ abbrev pub fades : ℕ → ℕ → ℕ → ℕ → ℕ → Op
 fades c r n fade_in fade_out = record { stamp = by c r n; act = SetFade (by 2 11 1) fade_in fade_out
     }
 
--- of two fades the one with the greater stamp counts, in whatever order they stand
+-- of two fades the one with the greater stamp counts, in any order of the list
 pub two_fades : clips_of (fades 3 10 3 1 0 ∷ fades 3 11 2 5 0 ∷ p_q)
     ≡ (record (seen (by 2 11 1) 5) { fade_in = 5 } ∷ []) ∷ [] ∷ []
 two_fades = refl
@@ -177,7 +177,7 @@ pub two_fades_turned : clips_of (fades 3 11 2 5 0 ∷ fades 3 10 3 1 0 ∷ p_q)
     ≡ (record (seen (by 2 11 1) 5) { fade_in = 5 } ∷ []) ∷ [] ∷ []
 two_fades_turned = refl
 
--- a fade of what is no clip waits
+-- a fade of an item that is no clip waits
 pub faded_marker : session_of (news ∷ record { stamp = by 2 10 2; act = SetFade (by 1 10 1) 1 1 }
     ∷ [])
     ≡ record { tracks = []; markers = record { marker = by 1 10 1; at = 480; len = 0; title = codes

@@ -1,4 +1,4 @@
--- What is read of the operations noted, item by item. Working definitions.
+-- Working definitions: the entries read from the applied operations, item by item.
 use Rattle.std.specs.Prelude.{◌≡◌, ℕ, Bool, false, ◌&&◌, List, [], ◌∷◌, Option, Some, None}
 use Rattle.std.specs.Prelude.{MatchOption, unwrap_or, slice_index_or, if◌then◌else◌}
 use Rattle.std.specs.BTreeMap.{BTreeMap, get}
@@ -30,7 +30,7 @@ use Rattle.mt_sessionview.specs.AppliedOps.{value_in, clips_in}
 use Rattle.mt_sessionview.specs.declared.clip.OnTrack.{OnTrack}
 
 module _ (applied : List Op) where
-  -- a marker that is present
+  -- a present marker
   abbrev pub marker_from : Stamp → Option (Written (List ℕ)) → Option Marker
   marker_from marker None = None
   marker_from marker (Some title) = Some (record {
@@ -48,7 +48,7 @@ module _ (applied : List Op) where
   abbrev pub fades_of : Stamp → FadeLengths
   fades_of clip = unwrap_or (value_in applied fades_written clip) no_fades
 
-  -- a clip that is present, with the track that it is on
+  -- a present clip, with its track
   abbrev pub clip_from : Stamp → Option (Written Placement) → Option (Written TrimRange)
       → Option (Written Digest) → Option OnTrack
   clip_from clip (Some place) (Some trim) (Some source) = Some (record {
@@ -73,7 +73,7 @@ module _ (applied : List Op) where
       (last_write clip_place_written clip applied) (last_write trim_written clip applied)
       (last_write source_written clip applied) else None
 
-  -- the clip, where it is on this track
+  -- the clip, if it is on this track
   abbrev pub if_on : Stamp → Option OnTrack → Option Clip
   if_on track None = None
   if_on track (Some found) = if stamp_eq found.track track then Some found.clip else None
@@ -81,7 +81,7 @@ module _ (applied : List Op) where
   abbrev pub clip_on : Stamp → Stamp → Option Clip
   clip_on track clip = if_on track (clip_read clip)
 
-  -- the track that stands where an operation put it
+  -- whether this place is the current one of a track
   abbrev pub is_writer : Stamp → Option (Written (Option Stamp)) → Bool
   is_writer place None = false
   is_writer place (Some w) = stamp_eq w.writer place
@@ -105,13 +105,13 @@ module _ (applied : List Op) where
     clips = clips;
   })
 
--- the track to which an act gives a place
+-- the track that an act gives a place
 abbrev pub placed_track : Stamp → Body → Option Stamp
 placed_track own (AddTrack after title) = Some own
 placed_track own (MoveTrack track after) = Some track
 placed_track own _ = None
 
--- what an act puts a track after, none for the head
+-- the place that an act puts a track after, none for the head
 abbrev pub place_after : Body → Option Stamp
 place_after (AddTrack after title) = after
 place_after (MoveTrack track after) = after
@@ -121,14 +121,14 @@ place_after _ = None
 abbrev pub tree_place : Op → TreePlace
 tree_place o = record { place = o.stamp; after = place_after o.act }
 
--- the element that an operation gives a list of places; where it gives no place, its own stamp at
+-- the element of a list of places for an operation; for one that gives no place, its own stamp at
 -- the head
 abbrev pub place_of_op : Op → Placed
 place_of_op o = record { place = o.stamp; after = place_after o.act; track = unwrap_or
     (placed_track o.stamp o.act) o.stamp }
 
 module _ (applied : List Op) where
-  -- the clips of a track, by their rising stamps
+  -- the clips of a track, by rising stamp
   abbrev pub HasClips : BTreeMap Stamp (List Clip) → Stamp → Type 0
   HasClips table track = unwrap_or (get stamp_cmp table track) []
       ≡ filter_map (clip_on applied track) (items_of ClipRole applied)
@@ -142,25 +142,25 @@ module _ (applied : List Op) where
   track_where (Some track) = track_from applied track (clips_in applied track)
       (last_write title_written track applied)
 
-  -- the present track that stands where an operation put it
+  -- the present track whose current place is the one from this operation
   abbrev pub standing : Op → Option Stamp
   standing o = if_standing applied o.stamp (placed_track o.stamp o.act)
 
   abbrev pub track_read : Op → Option Track
   track_read o = track_where (standing o)
 
--- the cells of each track hold where it stands and its tags, and there are cells of nothing else
+-- the cells of each track hold its current place and its tags, and nothing else has cells
 abbrev pub HoldStands : {A : Type 0} → List Op → List (Stamp × TrackCells A) → Type 0
 HoldStands applied cells = (track : Stamp) → MatchOption (lookup (stamp_eq track) cells)
     (is_need_met applied (need_of TrackRole track) ≡ false)
     (λ c. HoldsLast track_place_written track applied c.place × HoldsTags track applied c.presence)
 
--- the operation at a place, and one in no list where there is none
+-- the operation at an index, and a placeholder if there is none
 abbrev pub op_at : List Op → ℕ → Op
 op_at ops p = slice_index_or ops p (record { stamp = record
     { clock = 0; replica = record { 0 = 0 }; seq = 0 }; act = AddMarker 0 [] })
 
--- the operations at these places, in this order
+-- the operations at these indexes, in this order
 abbrev pub ops_at : List Op → List ℕ → List Op
 ops_at ops [] = []
 ops_at ops (p ∷ order) = op_at ops p ∷ ops_at ops order

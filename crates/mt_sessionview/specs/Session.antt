@@ -26,30 +26,29 @@ use Rattle.mt_sessionview.specs.SessionValue.{Clip, Track, Marker, Session, clip
 abbrev pub ready_ops : List Op → List Op
 ready_ops s = ready clock_of needs meets s
 
--- the stamps of operations, in their order
+-- the stamps of operations, in the same order
 abbrev pub stamps_of : List Op → List Stamp
 stamps_of s = map (λ o. o.stamp) s
 
--- in the set and not ready: kept, merged and counted, and without effect
+-- the operations in the set that are not ready: kept, merged and counted, and without effect
 abbrev pub held_ops : List Op → List Op
 held_ops s = held clock_of needs meets s
 
--- the last write of an item's field, where there is one (LWW-Register: INRIA RR-7506, section
--- 3.2.1)
+-- the last write of an item's field, if there is one (LWW-Register: INRIA RR-7506, section 3.2.1)
 abbrev pub field_write : {X : Type 0} → (Stamp → Body → Option (Write X)) → List Op → Stamp
     → Option (Written X)
 field_write field s item = last_write field item (ready_ops s)
 
--- the value of an item's field: what the last writer wrote
+-- the value of an item's field: the one of its last writer
 abbrev pub field_value : {X : Type 0} → (Stamp → Body → Option (Write X)) → List Op → Stamp
     → Option X
 field_value {X} field s item = option_map (λ (w : Written X). w.value) (field_write field s item)
 
--- whether an operation added an item of a kind that is present
+-- whether an operation added a present item of a kind
 abbrev pub is_shown : (Body → Bool) → List Op → Op → Bool
 is_shown adds s o = adds o.act && is_present (ready_ops s) o.stamp
 
--- the operations that added the items of a kind that are present
+-- the operations that added the present items of a kind
 abbrev pub shown_ops : (Body → Bool) → List Op → List Op
 shown_ops adds s = filter (is_shown adds s) (ready_ops s)
 
@@ -66,16 +65,16 @@ marker_of s o = record {
 
 -- ---- clips
 
--- where a clip is, its track and its frame, with the stamp of the operation that put it there
+-- the place of a clip, its track and its frame, with the stamp of the operation that gave the place
 abbrev pub clip_place : List Op → Stamp → Written Placement
 clip_place s clip = unwrap_or (field_write clip_place_written s clip)
     (record { writer = clip; value = record { track = clip; at = 0 } })
 
--- what a clip plays of its recording
+-- the part of its recording that a clip plays
 abbrev pub clip_trim : List Op → Stamp → TrimRange
 clip_trim s clip = unwrap_or (field_value trim_written s clip) (record { offset = 0; len = 0 })
 
--- over how many frames a clip fades in and out
+-- the numbers of frames over which a clip fades in and out
 abbrev pub clip_fades : List Op → Stamp → FadeLengths
 clip_fades s clip = unwrap_or (field_value fades_written s clip) no_fades
 
@@ -98,27 +97,27 @@ clip_of s o = record {
   source = clip_source s o.stamp;
 }
 
--- whether an operation added a clip that is present and on this track
+-- whether an operation added a present clip on this track
 abbrev pub is_clip_on : List Op → Stamp → Op → Bool
 is_clip_on s track o = is_shown adds_clip s o && stamp_eq (clip_place s o.stamp).value.track track
 
--- the clips of a track, by position and then by the stamp that gave their place
+-- the clips of a track, by position and then by the stamp of their place
 abbrev pub clips_on : List Op → Stamp → List Clip
 clips_on s track = sort_by clip_cmp (map (clip_of s) (filter (is_clip_on s track) (ready_ops s)))
 
 -- ---- tracks
 
--- the place that an operation gives a track in the track order, and after which it is (RGA: INRIA
--- RR-7506, co-operative text editing)
+-- the place that an operation gives a track in the track order, with the place that it is put after
+-- (RGA: INRIA RR-7506, co-operative text editing)
 abbrev pub place_added : Op → Option TreePlace
 place_added o = option_map (λ (w : Write (Option Stamp)). record
     { place = o.stamp; after = w.value }) (track_place_written o.stamp o.act)
 
--- all places that ready operations gave; none is ever taken out
+-- all places that ready operations gave; none is ever removed
 abbrev pub places : List Op → List TreePlace
 places s = filter_map place_added (ready_ops s)
 
--- where a track stands: the place of the last operation that put it anywhere
+-- the current place of a track: the place of the last operation that gave it one
 abbrev pub track_place : List Op → Stamp → Stamp
 track_place s track = unwrap_or (option_map (λ (w : Written (Option Stamp)). w.writer)
     (field_write track_place_written s track)) track
@@ -139,8 +138,8 @@ track_of s o = record {
 
 -- ---- the session
 
--- The session of a set: its tracks, each once, in the order of their places, its markers by
--- position and stamp, and the number held. A clip whose track is absent is not shown.
+-- The session of a set: its present tracks, each once, in the order of their places, its present
+-- markers by position and stamp, and the number held. A clip whose track is absent is not shown.
 abbrev pub session_of : List Op → Session
 session_of s = record {
   tracks = map (track_of s) (sort_by (track_cmp s) (shown_ops adds_track s));

@@ -1,4 +1,4 @@
-//! The session of operations, from nothing.
+//! The session of operations, made from scratch.
 
 ghost use Rattle.std.specs.Prelude.{◌≡◌, ◌-◌, ◌≤◌, ℕ, List as ListOf, length, map, IfOk};
 ghost use Rattle.std.specs.List.{sum_by};
@@ -25,8 +25,8 @@ use mt_stamp::{List, Stamp};
 use session_state::{ItemStates, MarkerCells};
 use std::alloc::{AllocError, Allocator};
 
-// The tracks that noted operations leave, in the order of their places, from the operations that
-// gave these, in order.
+// The tracks of applied operations, in the order of their places, from the operations that gave
+// these places, in the same order.
 fn tracks_of<A: Allocator + Clone>(
     alloc: &A,
     items: &ItemStates<A>,
@@ -40,8 +40,8 @@ fn tracks_of<A: Allocator + Clone>(
     tracks(alloc, items, clips, placed)
 }
 
-// The tracks that ready operations show, in the order of their places; beside them the operations
-// that gave these, in order.
+// The tracks of ready operations, in the order of their places, with the operations that gave these
+// places, in the same order.
 fn placed_tracks<'a, A: Allocator + Clone>(
     alloc: &A,
     ready: &[&'a Op<A>],
@@ -59,7 +59,7 @@ fn placed_tracks<'a, A: Allocator + Clone>(
     Ok((tracks, placed))
 }
 
-// The markers that noted operations leave, by position, then by stamp.
+// The markers of applied operations, by position, then by stamp.
 fn markers_of<A: Allocator + Clone>(
     alloc: &A,
     items: &ItemStates<A>,
@@ -72,10 +72,10 @@ fn markers_of<A: Allocator + Clone>(
     Ok(markers)
 }
 
-/// The session that ready operations show, from these by rising stamp and the items that they
-/// leave, noted in whatever order, with a number of others held; beside it the operations that give
-/// tracks their places, in the order of these. In a time of n log n for n operations and items.
-/// Refused only as `AllocError`.
+/// The session of ready operations, from these by rising stamp and the items after them, applied in
+/// any order, with this number of others held; also the operations that give tracks their places,
+/// in the order of the places. Takes time n log n for n operations and items. Fails only with
+/// `AllocError`.
 pub fn session_of_ready<'a, A: Allocator + Clone>(
     alloc: A,
     ready: &[&'a Op<A>],
@@ -100,8 +100,8 @@ pub fn session_of_ready<'a, A: Allocator + Clone>(
     Ok((session, placed))
 }
 
-// What a session is made of: the tracks in order, the cells of the markers, with the titles that
-// they hold, and how many operations are held. None of it stands on the log's memory.
+// The parts of a session: the tracks in order, the cells of the markers with their titles, and the
+// number of operations held. They borrow nothing from the log.
 #[derive(Drop)]
 pub(crate) struct Parts<A: Allocator> {
     tracks: Vec<TrackView<A>, A>,
@@ -109,7 +109,7 @@ pub(crate) struct Parts<A: Allocator> {
     held: u64,
 }
 
-// The parts of what ready operations show, from the items that they leave, which are let go.
+// The parts of the session of ready operations, from the items after them, which are dropped.
 fn parts_of_items<A: Allocator + Clone>(
     alloc: &A,
     ready: &[&Op<A>],
@@ -131,7 +131,7 @@ fn parts_of_items<A: Allocator + Clone>(
     })
 }
 
-// How many of so many operations are not among the ready ones.
+// The number of operations that are not ready, out of this many.
 fn count_held<A: Allocator>(count: usize, ready: &[&Op<A>]) -> u64
     requires { length ready.now ≤ count }
     ensures { result ≡ count - length ready.now }
@@ -139,8 +139,8 @@ fn count_held<A: Allocator>(count: usize, ready: &[&Op<A>]) -> u64
     (count - ready.len()) as u64
 }
 
-/// What the session of a log's operations is made of: in a time of n log n for n of them and of the
-/// tags that they list. Refused only as `AllocError`.
+/// The parts of the session of a log's operations. Takes time n log n for n operations and the tags
+/// that they list. Fails only with `AllocError`.
 pub(crate) fn parts_of_log<A: Allocator + Clone>(
     alloc: &A,
     log: &Log<A>,
@@ -159,7 +159,7 @@ pub(crate) fn parts_of_log<A: Allocator + Clone>(
     Ok(parts)
 }
 
-/// The session that is made of parts. Refused only as `AllocError`.
+/// The session made of these parts. Fails only with `AllocError`.
 pub(crate) fn session_of_parts<A: Allocator + Clone>(
     alloc: A,
     parts: Parts<A>,

@@ -10,8 +10,8 @@ use mt_opcodec::Log;
 use mt_stamp::Stamp;
 use std::alloc::{AllocError, Allocator};
 
-/// References to operations of different stamps, by rising stamp. n operations cost n log n.
-/// `AllocError` where an allocation failed.
+/// References to operations of different stamps, sorted by rising stamp. n operations cost n log n.
+/// `AllocError` when an allocation fails.
 pub fn sorted_by_stamp<'a, A: Allocator, B: Allocator>(
     ops: Vec<&'a Op<A>, B>,
 ) -> Result<Vec<&'a Op<A>, B>, AllocError>
@@ -24,8 +24,8 @@ pub fn sorted_by_stamp<'a, A: Allocator, B: Allocator>(
     Ok(sorted)
 }
 
-/// References to a log's operations, by rising stamp. n operations cost n log n, and take memory
-/// for the references alone. `AllocError` where an allocation failed.
+/// References to a log's operations, sorted by rising stamp. n operations cost n log n, and memory
+/// only for the references. `AllocError` when an allocation fails.
 pub fn sorted_ops<'a, A: Allocator, B: Allocator>(
     alloc: B,
     log: &'a Log<A>,
@@ -39,7 +39,7 @@ pub fn sorted_ops<'a, A: Allocator, B: Allocator>(
     sorted_by_stamp(refs)
 }
 
-// The stamps of operations, in their order.
+// The stamps of operations, in the same order.
 pub(crate) fn stamps_of<A: Allocator, B: Allocator>(
     alloc: B,
     ops: &[&Op<A>],

@@ -1,4 +1,4 @@
-//! One clip of a track of a session, put in or taken out.
+//! One clip of a track of a session, inserted or removed.
 
 ghost use Rattle.std.specs.Prelude.{◌≡◌, ◌<◌, true, false, length, slice_get, Some, IfNone, IfSome};
 ghost use Rattle.std.specs.Prelude.{OnErr, OnOk, find, option_and_then};
@@ -13,7 +13,7 @@ use crate::session::{ClipView, Session, TrackView};
 use mt_stamp::Stamp;
 use std::alloc::{AllocError, Allocator};
 
-// The place of the first clip that does not come before a position and the stamp of a place.
+// The index of the first clip that does not come before a position and the stamp of a place.
 fn clip_place(clips: &[ClipView], at: u32, place: Stamp) -> usize
     requires { RisesStrictly clip_cmp clips.now }
     ensures { IsPlace (clip_beside at place) clips.now result }
@@ -21,14 +21,15 @@ fn clip_place(clips: &[ClipView], at: u32, place: Stamp) -> usize
     clips.partition_point(|view| (view.at, view.place).cmp(&(at, place)).is_lt())
 }
 
-// Whether a clip begins at this position, where the operation of this stamp put it.
+// Whether a clip begins at this position, with its place from the operation of this stamp.
 fn is_clip_at(view: &ClipView, at: u32, place: Stamp) -> bool
     ensures { result ≡ is_clip_at at place view.now }
 {
     view.at == at && place == view.place
 }
 
-// Where the clip stands that begins at this position, where the operation of this stamp put it.
+// The index of the clip that begins at this position, with its place from the operation of this
+// stamp.
 fn clip_index(clips: &[ClipView], at: u32, place: Stamp) -> Option<usize>
     requires { RisesStrictly clip_cmp clips.now }
     ensures found { IfSome result (StandsAt (is_clip_at at place) clips.now) }
@@ -45,7 +46,7 @@ fn clip_index(clips: &[ClipView], at: u32, place: Stamp) -> Option<usize>
 }
 
 impl<A: Allocator> TrackView<A> {
-    // Puts a clip in where its position and the stamp of its place say.
+    // Inserts a clip by its position and the stamp of its place.
     fn put_clip(&mut self, clip: ClipView) -> Result<(), AllocError>
         requires { list_any (is_placed_by clip.place) self.old.clips ≡ false }
         ensures ok { OnOk result (self.new ≡ with_clip clip self.old) }
@@ -56,7 +57,8 @@ impl<A: Allocator> TrackView<A> {
         Ok(())
     }
 
-    // Takes the clip out that begins at this position, where the operation of this stamp put it.
+    // Removes the clip that begins at this position, with its place from the operation of this
+    // stamp.
     fn take_clip(&mut self, at: u32, place: Stamp) -> Option<ClipView>
         ensures taken { result ≡ find (is_clip_at at place) self.old.clips }
         ensures rest { self.new ≡ without_clip at place self.old }
@@ -65,8 +67,7 @@ impl<A: Allocator> TrackView<A> {
         Some(self.clips.remove(index))
     }
 
-    // Puts a clip in the place of the one that begins at its position, where the same operation put
-    // it.
+    // Replaces the clip with the same position and the same place by this one.
     fn set_clip(&mut self, clip: ClipView)
         requires { list_any (is_clip_at clip.at clip.place) self.old.clips ≡ true }
         ensures { self.new ≡ with_clip clip (without_clip clip.at clip.place self.old) }
@@ -79,11 +80,10 @@ impl<A: Allocator> TrackView<A> {
 }
 
 impl<A: Allocator> Session<A> {
-    /// Puts a clip in on the track at an index, counted from 0, where its position, in frames, and
-    /// the stamp of its place say. Finding the place takes as many comparisons as the logarithm of
-    /// how many clips the track has, and what follows moves. No clip of the track may have its
-    /// place already. Refused only as `AllocError`, where an allocation failed, and then the
-    /// session is unchanged.
+    /// Inserts a clip into the track at an index, counted from 0, by the clip's position, in
+    /// frames, and the stamp of its place. The search takes log n comparisons for the n clips of
+    /// the track, and the later clips move. No clip of the track may have the same place. Fails
+    /// only with `AllocError`, when an allocation fails, and then the session is unchanged.
     pub fn put_clip(&mut self, index: usize, clip: ClipView) -> Result<(), AllocError>
         requires inside { index < length self.old.tracks }
         requires new { (t : Track) → slice_get self.old.tracks index ≡ Some t
@@ -96,10 +96,10 @@ impl<A: Allocator> Session<A> {
         track.put_clip(clip)
     }
 
-    /// Takes the clip out of the track at an index, counted from 0, that begins at this position,
-    /// in frames, where the operation of this stamp put it, and gives it back; `None` where there
-    /// is none. Finding it takes as many comparisons as the logarithm of how many clips the track
-    /// has, and what follows moves. Takes no memory.
+    /// Removes from the track at an index, counted from 0, the clip that begins at this position,
+    /// in frames, with its place from the operation of this stamp. Returns the clip, or `None` if
+    /// there is none. The search takes log n comparisons for the n clips of the track, and the
+    /// later clips move. Allocates no memory.
     pub fn take_clip(&mut self, index: usize, at: u32, place: Stamp) -> Option<ClipView>
         requires { index < length self.old.tracks }
         ensures taken { result ≡ option_and_then (λ t. find (is_clip_at at place) t.clips)
@@ -111,10 +111,9 @@ impl<A: Allocator> Session<A> {
         track.take_clip(at, place)
     }
 
-    /// Puts a clip in the place of the one that begins at its position, in frames, on the track at
-    /// an index, counted from 0, where the same operation put it, as a trim, a gain or a mute asks.
-    /// One has to stand there. Finding it takes as many comparisons as the logarithm of how many
-    /// clips the track has. Takes no memory.
+    /// Replaces a clip of the track at an index, counted from 0, by one with the same position, in
+    /// frames, and the same place, as for a trim, a gain or a mute. There has to be such a clip.
+    /// The search takes log n comparisons for the n clips of the track. Allocates no memory.
     pub fn set_clip(&mut self, index: usize, clip: ClipView)
         requires inside { index < length self.old.tracks }
         requires there { (t : Track) → slice_get self.old.tracks index ≡ Some t

@@ -1,4 +1,4 @@
-//! One marker of a session, put in or taken out.
+//! One marker of a session, inserted or removed.
 
 ghost use Rattle.std.specs.Prelude.{◌≡◌, true, false, IfNone, IfSome, OnErr, OnOk, find, filter};
 ghost use Rattle.std.specs.Prelude.{not};
@@ -12,7 +12,7 @@ use crate::session::{MarkerView, Session};
 use mt_stamp::Stamp;
 use std::alloc::{AllocError, Allocator};
 
-// The place of the first marker that does not come before a position and a stamp.
+// The index of the first marker that does not come before a position and a stamp.
 fn marker_place<A: Allocator>(markers: &[MarkerView<A>], at: u32, marker: Stamp) -> usize
     requires { RisesStrictly marker_cmp markers.now }
     ensures { IsPlace (marker_beside at marker) markers.now result }
@@ -20,14 +20,14 @@ fn marker_place<A: Allocator>(markers: &[MarkerView<A>], at: u32, marker: Stamp)
     markers.partition_point(|view| (view.at, view.marker).cmp(&(at, marker)).is_lt())
 }
 
-// Whether a marker stands at this position under this stamp.
+// Whether a marker has this position and this stamp.
 fn is_marker_at<A: Allocator>(view: &MarkerView<A>, at: u32, marker: Stamp) -> bool
     ensures { result ≡ is_marker_at at marker view.now }
 {
     view.at == at && marker == view.marker
 }
 
-// Where the marker of a stamp stands, if it is at this position.
+// The index of the marker of a stamp, if it is at this position.
 fn marker_index<A: Allocator>(markers: &[MarkerView<A>], at: u32, marker: Stamp) -> Option<usize>
     requires { RisesStrictly marker_cmp markers.now }
     ensures found { IfSome result (StandsAt (is_marker_at at marker) markers.now) }
@@ -44,10 +44,10 @@ fn marker_index<A: Allocator>(markers: &[MarkerView<A>], at: u32, marker: Stamp)
 }
 
 impl<A: Allocator> Session<A> {
-    /// Puts a marker in where its position, in frames, and its stamp say. Finding the place takes
-    /// as many comparisons as the logarithm of how many markers there are, and what follows moves.
-    /// No marker with its position and stamp may be there. Refused only as `AllocError`, where an
-    /// allocation failed, and then the session is unchanged.
+    /// Inserts a marker by its position, in frames, and its stamp. The search takes log n
+    /// comparisons for n markers, and the later markers move. No marker with this position and
+    /// stamp may be there. Fails only with `AllocError`, when an allocation fails, and then the
+    /// session is unchanged.
     pub fn put_marker(&mut self, marker: MarkerView<A>) -> Result<(), AllocError>
         requires { list_any (is_marker_at marker.at marker.marker) self.old.markers ≡ false }
         ensures ok { OnOk result (self.new ≡ record self.old
@@ -59,9 +59,9 @@ impl<A: Allocator> Session<A> {
         Ok(())
     }
 
-    /// Takes the marker of this stamp out that stands at this position, in frames, and gives it
-    /// back; `None` where there is none. Finding it takes as many comparisons as the logarithm of
-    /// how many markers there are, and what follows moves. Takes no memory.
+    /// Removes the marker of this stamp at this position, in frames, and returns it; `None` if
+    /// there is none. The search takes log n comparisons for n markers, and the later markers move.
+    /// Allocates no memory.
     pub fn take_marker(&mut self, at: u32, marker: Stamp) -> Option<MarkerView<A>>
         ensures taken { result ≡ find (is_marker_at at marker) self.old.markers }
         ensures rest { self.new ≡ record self.old { markers = filter
@@ -71,9 +71,9 @@ impl<A: Allocator> Session<A> {
         Some(self.markers.remove(index))
     }
 
-    /// Puts a marker in the place of the one that stands at its position, in frames, under its
-    /// stamp, as a new title asks. One has to stand there. Finding it takes as many comparisons as
-    /// the logarithm of how many markers there are. Takes no memory.
+    /// Replaces the marker with the same position, in frames, and the same stamp, as for a new
+    /// title. There has to be such a marker. The search takes log n comparisons for n markers.
+    /// Allocates no memory.
     pub fn set_marker(&mut self, marker: MarkerView<A>)
         requires { list_any (is_marker_at marker.at marker.marker) self.old.markers ≡ true }
         ensures { self.new ≡ record self.old { markers = insert_by marker_cmp marker

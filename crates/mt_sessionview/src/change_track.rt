@@ -1,4 +1,4 @@
-//! One track of a session, put in, taken out or rewritten, and the number held.
+//! One track of a session, inserted, removed or rewritten, and the number held.
 
 ghost use Rattle.std.specs.Prelude.{◌≡◌, ◌<◌, ◌≤◌, false, length, slice_get, Some, OnErr, OnOk};
 ghost use Rattle.std.specs.Prelude.{insert, remove, position};
@@ -12,8 +12,8 @@ use mt_stamp::Stamp;
 use std::alloc::{AllocError, Allocator};
 
 impl<A: Allocator> Session<A> {
-    /// Where the track of a stamp stands, counted from 0; `None` where it is not there. Looks at
-    /// one track after another.
+    /// The index of the track of a stamp, counted from 0; `None` if it is not there. A linear
+    /// search.
     pub fn index_of_track(&self, track: Stamp) -> Option<usize>
         ensures { result ≡ position (is_track_of track) self.now.tracks }
     {
@@ -23,9 +23,9 @@ impl<A: Allocator> Session<A> {
             .position(|view| track == view.track)
     }
 
-    /// Puts a track in at an index of at most the number of tracks, before what stands there. No
-    /// track of its stamp may be there. What follows moves. Refused only as `AllocError`, where an
-    /// allocation failed, and then the session is unchanged.
+    /// Inserts a track before the one at this index, which is at most the number of tracks. No
+    /// track of its stamp may be there. The later tracks move. Fails only with `AllocError`, when
+    /// an allocation fails, and then the session is unchanged.
     pub fn put_track(&mut self, index: usize, track: TrackView<A>) -> Result<(), AllocError>
         requires inside { index ≤ length self.old.tracks }
         requires new { list_any (is_track_of track.track) self.old.tracks ≡ false }
@@ -37,8 +37,8 @@ impl<A: Allocator> Session<A> {
         Ok(())
     }
 
-    /// Takes the track at an index, counted from 0, out with its clips, and gives it back. What
-    /// follows moves. Takes no memory.
+    /// Removes the track at an index, counted from 0, with its clips, and returns it. The later
+    /// tracks move. Allocates no memory.
     pub fn take_track(&mut self, index: usize) -> TrackView<A>
         requires { index < length self.old.tracks }
         ensures taken { slice_get self.old.tracks index ≡ Some result }
@@ -47,8 +47,8 @@ impl<A: Allocator> Session<A> {
         self.tracks.remove(index)
     }
 
-    /// Moves the track at an index, counted from 0, to another: it is taken out with its clips, and
-    /// then put in before what stands there. What lies between moves. Takes no memory.
+    /// Moves the track at an index, counted from 0, to another: it is removed with its clips, and
+    /// then inserted at the other index. The tracks between them move. Allocates no memory.
     pub fn move_track(&mut self, from: usize, to: usize)
         requires from { from < length self.old.tracks }
         requires to { to < length self.old.tracks }
@@ -58,8 +58,8 @@ impl<A: Allocator> Session<A> {
         self.tracks.move_item(from, to);
     }
 
-    /// Gives the track at an index, counted from 0, this title, gain and mute. Its stamp and its
-    /// clips stay. Takes no memory.
+    /// Sets the title, gain and mute of the track at an index, counted from 0. Its stamp and its
+    /// clips stay the same. Allocates no memory.
     pub fn set_track(&mut self, index: usize, title: Title<A>, gain: Gain, mute: bool)
         requires { index < length self.old.tracks }
         ensures { self.new ≡ record self.old { tracks = changed_at index
@@ -71,7 +71,7 @@ impl<A: Allocator> Session<A> {
         track.mute = mute;
     }
 
-    /// Sets how many operations are held.
+    /// Sets the number of operations held.
     pub fn set_held(&mut self, held: u64)
         ensures { self.new ≡ record self.old { held = held } }
     {

@@ -24,7 +24,7 @@ struct OnTrack {
     clip: ClipView,
 }
 
-// A clip with its track, from its cells, where it is present.
+// A clip with its track, from its cells, if it is present.
 fn clip_at<A: Allocator>(clip: Stamp, cells: &ClipCells<A>) -> Option<OnTrack>
     requires positive { 1 ≤ cells.now.trim.value.len }
     requires short { AreShort cells.now.fades.value }
@@ -53,7 +53,7 @@ fn clip_at<A: Allocator>(clip: Stamp, cells: &ClipCells<A>) -> Option<OnTrack>
     })
 }
 
-// Puts a clip with those of its track.
+// Adds a clip to those of its track.
 fn apply_clip<A: Allocator + Clone>(
     alloc: &A,
     table: &mut BTreeMap<Stamp, List<ClipView, A>, A>,
@@ -73,7 +73,7 @@ fn apply_clip<A: Allocator + Clone>(
     Ok(())
 }
 
-// The present clips of each track, by their rising stamps.
+// The present clips of each track, by rising stamp.
 pub(crate) fn clips_by_track<A: Allocator + Clone>(
     alloc: &A,
     items: &ItemStates<A>,
@@ -89,8 +89,8 @@ pub(crate) fn clips_by_track<A: Allocator + Clone>(
     Ok(table)
 }
 
-// The clips of a track in order: by position, then by the stamp that gave their place; none where
-// none are noted.
+// The clips of a track in order: by position, then by the stamp of their place; none if none are
+// applied.
 pub(crate) fn sorted_clips<A: Allocator + Clone>(
     alloc: &A,
     clips: Option<List<ClipView, A>>,

@@ -1,4 +1,5 @@
-//! What holds of all sessions: each law is the contract of a small function, which does nothing.
+//! Laws of all sessions: each law is the contract of a small function with an empty or trivial
+//! body.
 
 ghost use Rattle.std.specs.Prelude.{◌≡◌, ◌↔◌, IsTrue, List};
 ghost use Rattle.mt_stamp.specs.StampOrder.{stamp_cmp};
@@ -11,37 +12,37 @@ ghost use Rattle.mt_stamp.specs.Sorting.{Sorts};
 use crate::session::{ClipView, MarkerView, Session, TrackView};
 use std::alloc::Allocator;
 
-/// The markers of a session rise by position and stamp, and sorting them neither loses nor makes
+/// The markers of a session rise by position and stamp, and sorting them neither drops nor adds
 /// one.
 pub fn sorted_markers()
     ensures { Sorts marker_cmp }
 {}
 
-/// The clips of a track rise by position and by the stamp that gave their place, and sorting them
-/// neither loses nor makes one.
+/// The clips of a track rise by position and by the stamp of their place, and sorting them neither
+/// drops nor adds one.
 pub fn sorted_clips()
     ensures { Sorts clip_cmp }
 {}
 
-/// The tracks of a session are in the order of their places, and sorting them neither loses nor
-/// makes one.
+/// The tracks of a session are in the order of their places, and sorting them neither drops nor
+/// adds one.
 pub fn sorted_tracks()
     ensures { (ops : List OpValue) → Sorts (track_cmp ops) }
 {}
 
-/// Stamps that are sorted rise, and sorting them neither loses nor makes one.
+/// Sorted stamps rise, and sorting them neither drops nor adds one.
 pub fn sorted_stamps()
     ensures { Sorts stamp_cmp }
 {}
 
-/// Two listings of the same operations give one session, where no two different operations have one
-/// stamp.
+/// Two listings of the same operations have the same session, provided that no two different
+/// operations have the same stamp.
 pub fn any_listing()
     ensures { AnyListing }
 {}
 
-/// Where every operation names older ones, as each `Op` does, one more that is held changes nothing
-/// but the number held: the tracks and the markers stay.
+/// If every operation names older ones, as each `Op` does, one more held operation changes only the
+/// number held: the tracks and the markers stay the same.
 pub fn held_operation()
     ensures { HeldIsCounted }
 {}
@@ -51,28 +52,28 @@ pub fn places_tree()
     ensures { PlacesAreATree }
 {}
 
-/// Clips are equal where they show the same.
+/// Clips are equal if they show the same values.
 pub fn equal_clips(clip: &ClipView, other: &ClipView) -> bool
     ensures { IsTrue result ↔ (clip.now ≡ other.now) }
 {
     clip == other
 }
 
-/// Markers are equal where they show the same.
+/// Markers are equal if they show the same values.
 pub fn equal_markers<A: Allocator>(marker: &MarkerView<A>, other: &MarkerView<A>) -> bool
     ensures { IsTrue result ↔ (marker.now ≡ other.now) }
 {
     marker == other
 }
 
-/// Tracks are equal where they show the same, and have the same clips.
+/// Tracks are equal if they show the same values and have the same clips.
 pub fn equal_tracks<A: Allocator>(track: &TrackView<A>, other: &TrackView<A>) -> bool
     ensures { IsTrue result ↔ (track.now ≡ other.now) }
 {
     track == other
 }
 
-/// Sessions are equal where they have the same tracks and markers, and hold the same number of
+/// Sessions are equal if they have the same tracks and markers, and hold the same number of
 /// operations.
 pub fn equal_sessions<A: Allocator>(session: &Session<A>, other: &Session<A>) -> bool
     ensures { IsTrue result ↔ (session.now ≡ other.now) }

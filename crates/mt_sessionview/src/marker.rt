@@ -15,7 +15,7 @@ use mt_stamp::Stamp;
 use session_state::{ItemStates, MarkerCells};
 use std::alloc::{AllocError, Allocator};
 
-// A marker, from its cells, where it is present.
+// A marker, from its cells, if it is present.
 fn marker_at<A: Allocator + Clone>(
     marker: Stamp,
     cells: &MarkerCells<A>,
@@ -37,7 +37,7 @@ fn marker_at<A: Allocator + Clone>(
     }))
 }
 
-// The markers that are present, in the order in which they were noted, with copies of their titles.
+// The present markers, in the order in which they were applied, with copies of their titles.
 pub(crate) fn markers<A: Allocator + Clone>(
     alloc: A,
     items: &ItemStates<A>,
@@ -55,7 +55,7 @@ pub(crate) fn markers<A: Allocator + Clone>(
     Ok(markers)
 }
 
-// A marker, from its cells by value, where it is present.
+// A marker, from its cells by value, if it is present.
 fn marker_from<A: Allocator>(marker: Stamp, cells: MarkerCells<A>) -> Option<MarkerView<A>>
     ensures { (ops : List OpValue) → HoldsMarker marker ops cells → result
         ≡ marker_read ops marker }
@@ -77,7 +77,7 @@ fn marker_from<A: Allocator>(marker: Stamp, cells: MarkerCells<A>) -> Option<Mar
     })
 }
 
-// The markers that are present, in the order of their cells, with the titles that these held.
+// The present markers, in the order of their cells, with the titles moved out of the cells.
 pub(crate) fn taken_markers<A: Allocator + Clone>(
     alloc: A,
     cells: Vec<(Stamp, MarkerCells<A>), A>,
@@ -95,7 +95,7 @@ pub(crate) fn taken_markers<A: Allocator + Clone>(
     Ok(markers)
 }
 
-// Puts markers in order: by position, then by stamp.
+// Sorts markers by position, then by stamp.
 pub(crate) fn sort_markers<A: Allocator>(
     markers: &mut Vec<MarkerView<A>, A>,
 ) -> Result<(), AllocError>

@@ -1,4 +1,4 @@
-//! The operations that give tracks their places, in the order of these.
+//! The operations that give tracks their places, in the order of the places.
 
 ghost use Rattle.std.specs.Prelude.{◌≡◌, ◌<◌, ℕ, map, length, slice_get, Some, IfOk};
 ghost use Rattle.mt_stamp.specs.Sorting.{RisesStrictly};
@@ -29,7 +29,8 @@ fn ops_at<'a, A: Allocator, B: Allocator>(
     Ok(those)
 }
 
-// Of operations that rise by stamp, those that give a track a place, in the order of their places.
+// The operations that give a track a place, in the order of the places, from operations that rise
+// by stamp.
 pub(crate) fn placed_ops<'a, A: Allocator + Clone>(
     alloc: &A,
     ops: &[&'a Op<A>],

@@ -13,7 +13,7 @@ use mt_stamp::Stamp;
 use mt_tracklist::{PlaceAfter, Placed};
 use std::alloc::{AllocError, Allocator};
 
-// Those of the operations that give a track a place.
+// The operations among these that give a track a place.
 pub(crate) fn place_ops<'a, A: Allocator + Clone>(
     alloc: &A,
     ops: &[&'a Op<A>],
@@ -30,7 +30,7 @@ pub(crate) fn place_ops<'a, A: Allocator + Clone>(
     Ok(places)
 }
 
-// What an operation puts a track after, none for the head.
+// The place that an operation puts a track after, `None` for the head.
 fn after<A: Allocator>(op: &Op<A>) -> Option<Stamp>
     ensures { result ≡ place_after op.now.act }
 {
@@ -40,9 +40,9 @@ fn after<A: Allocator>(op: &Op<A>) -> Option<Stamp>
     }
 }
 
-/// The element that an operation gives a list of places, where it gives a track a place: an
-/// AddTrack to the track that it adds, a MoveTrack to the one that it moves. Of any other it is its
-/// own stamp at the head.
+/// The element of a list of places for an operation that gives a track a place: an AddTrack for the
+/// track that it adds, a MoveTrack for the one that it moves. For any other operation the element
+/// is the operation's own stamp at the head.
 pub fn place_of_op<A: Allocator>(op: &Op<A>) -> Placed
     ensures { result ≡ place_of_op op.now }
 {
@@ -54,7 +54,7 @@ pub fn place_of_op<A: Allocator>(op: &Op<A>) -> Placed
     }
 }
 
-// The places that operations give, in their order.
+// The places that operations give, in the same order.
 pub(crate) fn places_of<A: Allocator, B: Allocator>(
     alloc: B,
     ops: &[&Op<A>],

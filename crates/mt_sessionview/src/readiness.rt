@@ -1,4 +1,4 @@
-//! The stamps of the operations that are ready.
+//! The stamps of the ready operations.
 
 ghost use Rattle.std.specs.Prelude.{◌≡◌, IfOk, IfErr};
 ghost use Rattle.mt_stamp.specs.StampOrder.{stamp_cmp};
@@ -13,8 +13,8 @@ use mt_opcodec::Log;
 use mt_stamp::Stamp;
 use std::alloc::Allocator;
 
-/// The stamps of a log's ready operations, rising: those that a session shows, and none that is
-/// held. In a time of n log n for n operations and the tags that they list. Refused only as
+/// The stamps of a log's ready operations, in rising order: those that a session shows, and none
+/// that is held. Takes time n log n for n operations and the tags that they list. Fails only with
 /// `Memory` (0).
 pub fn ready_stamps<A: Allocator + Clone>(
     alloc: A,

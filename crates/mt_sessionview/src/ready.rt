@@ -1,4 +1,4 @@
-//! The ready ones of operations, and the items that they leave.
+//! The ready operations, and the items after them.
 
 ghost use Rattle.std.specs.Prelude.{◌≡◌, IfOk, map, reverse};
 ghost use Rattle.mt_stamp.specs.Sorting.{RisesStrictly};
@@ -10,16 +10,16 @@ use mt_op::Op;
 use session_state::{ItemStates, PREFETCH_DISTANCE};
 use std::alloc::{AllocError, Allocator};
 
-// Operations that are ready, and the items that they leave.
+// Ready operations, and the items after them.
 #[derive(Drop)]
 pub(crate) struct Ready<'a, A: Allocator> {
     pub ops: Vec<&'a Op<A>, A>,
     pub items: ItemStates<A>,
 }
 
-// The ready ones of these operations, which rise by stamp. Each is looked at once: it is ready
-// where those before it that are ready meet its needs. The ready ones take the places of those
-// before them that are not.
+// The ready ones of these operations, which rise by stamp. Each operation is visited once: it is
+// ready if the ready ones before it meet its needs. The ready ones are moved forward to the indexes
+// of those that are not.
 pub(crate) fn ready_of<'a, A: Allocator + Clone>(
     alloc: &A,
     ops: Vec<&'a Op<A>, A>,

@@ -1,4 +1,4 @@
-//! The session of a log, and its text through a latch.
+//! The session of a log, and its text, written to a latch.
 
 ghost use Rattle.std.specs.Prelude.{◌≡◌, IfOk, IfErr, OnOk, false, true};
 ghost use Rattle.std.specs.Io.KnownBytes.{Appends};
@@ -15,8 +15,8 @@ use mt_opcodec::{BufferedLatch, Latch, Log};
 use std::alloc::{AllocError, Allocator};
 use std::io::Write;
 
-/// The session of a log's operations, in a time of n log n for n of them and of the tags that they
-/// list. Refused only as `Memory` (0).
+/// The session of a log's operations. Takes time n log n for n operations and the tags that they
+/// list. Fails only with `Memory` (0).
 pub fn from_scratch<A: Allocator + Clone>(
     alloc: A,
     log: &Log<A>,
@@ -28,8 +28,8 @@ pub fn from_scratch<A: Allocator + Clone>(
     Ok(session_of_parts(alloc, parts)?)
 }
 
-/// The same of a log by value, which is let go before the session's markers are made: so it takes
-/// less memory. Refused only as `AllocError`.
+/// The session of the operations of a log by value. The log is dropped before the session's markers
+/// are made, so this takes less memory than `from_scratch`. Fails only with `AllocError`.
 pub fn of_log<A: Allocator + Clone>(alloc: A, log: Log<A>) -> Result<Session<A>, AllocError>
     ensures ok { IfOk result (λ session. session ≡ session_of (operations log)) }
 {
@@ -39,11 +39,11 @@ pub fn of_log<A: Allocator + Clone>(alloc: A, log: Log<A>) -> Result<Session<A>,
 }
 
 /// Writes a session's text: a line for each track, followed by one for each of its clips, a line
-/// for each marker, all in order, then `held N`, each ended by a line feed. It is handed over in
-/// pieces as it is made, and takes no memory.
+/// for each marker, all in order, then `held N`. Each line ends with a line feed. The text is
+/// written in pieces as it is made, and this allocates no memory.
 ///
-/// Refused only as `Write` (37), where the output's latch has failed, before or in this call; the
-/// output then holds a prefix of the text, and is as it was where the latch had failed before.
+/// Fails only with `Write` (37), if the output's latch fails, before or in this call. The output
+/// then holds a prefix of the text, and is unchanged if the latch had failed before.
 #[tactic(auto, unfolding(base_io::specs::Buffered::Puts))]
 pub fn write_text<A: Allocator, W: Write>(
     session: &Session<A>,

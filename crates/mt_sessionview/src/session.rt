@@ -1,12 +1,12 @@
-//! What a session shows.
+//! The session that is shown.
 
 use mt_op::{Digest, Gain, Title};
 use mt_stamp::{List, Stamp};
 use std::alloc::{Allocator, Global};
 use std::marker::Model;
 
-/// A clip that is present, on a track that is. Its length is at least 1, and its fades are at most
-/// 1,048,576 frames.
+/// A present clip on a present track. Its length is at least 1, and its fades are at most 1,048,576
+/// frames.
 #[derive(Clone, Copy, Debug, PartialEq, Eq)]
 pub struct ClipView {
     /// The stamp of the operation that added it, which names it.
@@ -17,18 +17,18 @@ pub struct ClipView {
     pub at: u32,
     /// The first frame of its recording that it plays.
     pub offset: u32,
-    /// How many frames it plays, at least 1.
+    /// The number of frames that it plays, at least 1.
     pub len: u32,
-    /// What its samples are multiplied by.
+    /// The factor by which its samples are multiplied.
     pub gain: Gain,
     /// Whether it is muted.
     pub mute: bool,
-    /// Over how many of its first frames it fades in, at most 1,048,576; 0 for no fade. It may be
-    /// more than it plays.
+    /// The number of its first frames over which it fades in, at most 1,048,576; 0 for no fade. It
+    /// may be more than the number of frames played.
     pub fade_in: u32,
-    /// Over how many of its last frames it fades out, as `fade_in`.
+    /// The number of its last frames over which it fades out; the limits are those of `fade_in`.
     pub fade_out: u32,
-    /// The recording that it plays, by the digest of its file.
+    /// The digest of the file of the recording that it plays.
     pub source: Digest,
 }
 
@@ -47,19 +47,19 @@ impl Model for ClipView {
         len = c.len; gain = c.gain; mute = c.mute; fade_in = c.fade_in; fade_out = c.fade_out; source = c.source } };
 }
 
-/// A track that is present. Its clips are in order, and no two of them have the same place.
+/// A present track. Its clips are in order, and no two of them have the same place.
 #[derive(Drop)]
 #[derive_where(Debug, PartialEq, Eq)]
 pub struct TrackView<A: Allocator = Global> {
     /// The stamp of the operation that added it, which names it.
     pub track: Stamp,
-    /// The title that its last writer gave it, of at most 255 bytes.
+    /// The title from its last writer, at most 255 bytes.
     pub title: Title<A>,
-    /// What the samples of its clips are multiplied by, beside their own gain.
+    /// The factor by which the samples of its clips are multiplied, in addition to their own gain.
     pub gain: Gain,
     /// Whether it is muted.
     pub mute: bool,
-    /// Its clips that are present, by position and then by the stamp that gave their place.
+    /// Its present clips, by position and then by the stamp of their place.
     pub clips: List<ClipView, A>,
 }
 
@@ -78,17 +78,17 @@ impl<A: Allocator> Model for TrackView<A> {
         clips = t.clips } };
 }
 
-/// A marker that is present.
+/// A present marker.
 #[derive(Drop)]
 #[derive_where(Debug, PartialEq, Eq)]
 pub struct MarkerView<A: Allocator = Global> {
     /// The stamp of the operation that added it, which names it.
     pub marker: Stamp,
-    /// Where it stands, in frames.
+    /// Its position, in frames.
     pub at: u32,
-    /// How many frames it spans, 0 for a point.
+    /// The number of frames that it spans, 0 for a point.
     pub len: u32,
-    /// The title that its last writer gave it, of at most 255 bytes.
+    /// The title from its last writer, at most 255 bytes.
     pub title: Title<A>,
 }
 
@@ -102,16 +102,16 @@ impl<A: Allocator> Model for MarkerView<A> {
     ghost inverse = { λ m. record { marker = m.marker; at = m.at; len = m.len; title = m.title } };
 }
 
-/// The session of a set of operations. No track is there twice, and the markers are in order.
+/// The session of a set of operations. No track appears twice, and the markers are in order.
 #[derive(Drop)]
 #[derive_where(Debug, PartialEq, Eq)]
 pub struct Session<A: Allocator = Global> {
-    /// The tracks that are present, each once, in the order of their places.
+    /// The present tracks, each once, in the order of their places.
     pub tracks: List<TrackView<A>, A>,
-    /// The markers that are present, by position and then by stamp.
+    /// The present markers, by position and then by stamp.
     pub markers: List<MarkerView<A>, A>,
-    /// How many operations are held: kept, merged and counted, and without effect until what they
-    /// need is there.
+    /// The number of operations held: kept, merged and counted, and without effect until the
+    /// operations that they need are ready.
     pub held: u64,
 }
 

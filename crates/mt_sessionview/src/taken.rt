@@ -1,4 +1,4 @@
-//! Tracks of items that are let go, with the titles that their cells held.
+//! Tracks from items that are dropped, with the titles moved out of their cells.
 
 ghost use Rattle.std.specs.Prelude.{◌≡◌, ◌≢◌, ℕ, true, List as ListOf, Some, is_some, map, IfOk};
 ghost use Rattle.std.specs.Prelude.{OnOk, IfSome};
@@ -27,7 +27,8 @@ use mt_stamp::Stamp;
 use session_state::{ItemStates, MarkerCells, TrackCells};
 use std::alloc::{AllocError, Allocator};
 
-// The present track that stands where an operation put it, from the cells of all tracks.
+// The present track whose current place is the one from this operation, from the cells of all
+// tracks.
 fn standing_track<A: Allocator>(tracks: &StampMap<TrackCells<A>, A>, op: &Op<A>) -> Option<Stamp>
     ensures standing { (ops : ListOf OpValue) → AreApplied ops → HoldStands ops tracks.now → result
         ≡ standing ops op.now }
@@ -41,7 +42,7 @@ fn standing_track<A: Allocator>(tracks: &StampMap<TrackCells<A>, A>, op: &Op<A>)
     Some(track)
 }
 
-// A track with these clips, whose title is taken out of its cells.
+// A track with these clips, whose title is moved out of its cells.
 fn taken_track<A: Allocator + Clone>(
     alloc: &A,
     tracks: &mut StampMap<TrackCells<A>, A>,
@@ -65,9 +66,9 @@ fn taken_track<A: Allocator + Clone>(
     Ok(track_with(track, cells, title, clips))
 }
 
-// The present tracks with their clips, in the order of the operations that put them where they
-// stand, with the titles that their cells held; beside them the cells of the markers. All else of
-// the items is let go.
+// The present tracks with their clips, in the order of the operations that gave their current
+// places, with the titles moved out of their cells; also the cells of the markers. The rest of the
+// items is dropped.
 fn tracks_in_order<A: Allocator + Clone>(
     alloc: &A,
     items: ItemStates<A>,
@@ -93,8 +94,8 @@ fn tracks_in_order<A: Allocator + Clone>(
     Ok((tracks, markers))
 }
 
-// The tracks that ready operations show, in the order of their places, from the items that these
-// leave, which are let go; beside them the cells of the markers.
+// The tracks of ready operations, in the order of their places, from the items after them, which
+// are dropped; also the cells of the markers.
 pub(crate) fn taken_tracks<A: Allocator + Clone>(
     alloc: &A,
     ready: &[&Op<A>],

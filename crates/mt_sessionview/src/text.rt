@@ -1,4 +1,4 @@
-//! Sessions as text, in pieces that are handed over as they are made: no memory is taken.
+//! Sessions as text, written in pieces as they are made, without allocating memory.
 
 ghost use Rattle.std.specs.Prelude.{◌++◌, ◌∷◌, [], List, codes, if◌then◌else◌};
 ghost use Rattle.std.specs.Fmt.{decimal};
@@ -19,7 +19,7 @@ use std::alloc::Allocator;
 use std::io::Write;
 use uuid::Uuid;
 
-// Puts a replica, hyphenated and in lower case.
+// Writes a replica, hyphenated and in lower case.
 fn put_replica<W: Write>(output: &mut BufferedLatch<'_, W>, replica: Replica)
     ensures { Puts W.contents output.old output.new (replica_text replica) }
 {
@@ -28,7 +28,7 @@ fn put_replica<W: Write>(output: &mut BufferedLatch<'_, W>, replica: Replica)
     output.put(uuid.hyphenated().encode_lower(&mut buffer).as_bytes());
 }
 
-// Puts a label and a stamp.
+// Writes a label and a stamp.
 fn put_stamp<W: Write>(output: &mut BufferedLatch<'_, W>, label: &str, stamp: Stamp)
     ensures { Puts W.contents output.old output.new (label.now ++ stamp_text stamp) }
 {
@@ -40,7 +40,7 @@ fn put_stamp<W: Write>(output: &mut BufferedLatch<'_, W>, label: &str, stamp: St
     put_replica(output, stamp.replica());
 }
 
-// Puts a label and a number in decimal.
+// Writes a label and a number in decimal.
 fn put_number<W: Write>(output: &mut BufferedLatch<'_, W>, label: &str, number: u32)
     ensures { Puts W.contents output.old output.new (label.now ++ decimal number) }
 {
@@ -48,7 +48,7 @@ fn put_number<W: Write>(output: &mut BufferedLatch<'_, W>, label: &str, number: 
     output.put_decimal(u64::from(number));
 }
 
-// Puts ` mute on` or ` mute off`.
+// Writes ` mute on` or ` mute off`.
 fn put_mute<W: Write>(output: &mut BufferedLatch<'_, W>, mute: bool)
     ensures { Puts W.contents output.old output.new (if mute then codes " mute on" else codes
         " mute off") }
@@ -60,7 +60,7 @@ fn put_mute<W: Write>(output: &mut BufferedLatch<'_, W>, mute: bool)
     }
 }
 
-// Puts ` gain NUM/DEN mute on` or ` gain NUM/DEN mute off`.
+// Writes ` gain NUM/DEN mute on` or ` gain NUM/DEN mute off`.
 fn put_sound<W: Write>(output: &mut BufferedLatch<'_, W>, gain: Gain, mute: bool)
     ensures { Puts W.contents output.old output.new (sound_text gain mute) }
 {
@@ -71,7 +71,7 @@ fn put_sound<W: Write>(output: &mut BufferedLatch<'_, W>, gain: Gain, mute: bool
     put_mute(output, mute);
 }
 
-// Puts ` fade IN OUT`, in frames, where one of them is not 0.
+// Writes ` fade IN OUT`, in frames, unless both are 0.
 #[tactic(auto, using(base_io::proofs::Putting::then_puts, base_io::proofs::Putting::puts_none))]
 fn put_fades<W: Write>(output: &mut BufferedLatch<'_, W>, fade_in: u32, fade_out: u32)
     ensures { Puts W.contents output.old output.new (fade_text fade_in fade_out) }
@@ -85,7 +85,7 @@ fn put_fades<W: Write>(output: &mut BufferedLatch<'_, W>, fade_in: u32, fade_out
     output.put_decimal(u64::from(fade_out));
 }
 
-// Puts ` len N`, in frames, where it is not 0.
+// Writes ` len N`, in frames, unless it is 0.
 #[tactic(auto, using(base_io::proofs::Putting::then_puts, base_io::proofs::Putting::puts_none))]
 fn put_len<W: Write>(output: &mut BufferedLatch<'_, W>, len: u32)
     ensures { Puts W.contents output.old output.new (len_text len) }
@@ -97,7 +97,7 @@ fn put_len<W: Write>(output: &mut BufferedLatch<'_, W>, len: u32)
     output.put_decimal(u64::from(len));
 }
 
-// Puts a digest in hex digits and a line feed.
+// Writes a digest in hex digits and a line feed.
 #[tactic(auto, using(base_io::proofs::Putting::then_puts))]
 fn put_digest<W: Write>(output: &mut BufferedLatch<'_, W>, digest: Digest)
     ensures { Puts W.contents output.old output.new (digest_text digest ++ newline ∷ []) }
@@ -108,7 +108,7 @@ fn put_digest<W: Write>(output: &mut BufferedLatch<'_, W>, digest: Digest)
     output.put(b"\n");
 }
 
-// Puts `clip STAMP place STAMP at N offset N len N gain NUM/DEN mute on|off source DIGEST` and a
+// Writes `clip STAMP place STAMP at N offset N len N gain NUM/DEN mute on|off source DIGEST` and a
 // line feed, with the fades before the source: positions and lengths in frames, in decimal.
 fn put_clip_line<W: Write>(output: &mut BufferedLatch<'_, W>, view: &ClipView)
     ensures { Puts W.contents output.old output.new (clip_line view.now) }
@@ -124,7 +124,7 @@ fn put_clip_line<W: Write>(output: &mut BufferedLatch<'_, W>, view: &ClipView)
     put_digest(output, view.source);
 }
 
-// Puts ` title TITLE` and a line feed, the title as it is.
+// Writes ` title TITLE` and a line feed, the title unchanged.
 #[tactic(auto, using(base_io::proofs::Putting::then_puts))]
 fn put_title<W: Write>(output: &mut BufferedLatch<'_, W>, title: &str)
     ensures { Puts W.contents output.old output.new (codes " title " ++ (title.now ++ newline ∷ []))
@@ -135,7 +135,7 @@ fn put_title<W: Write>(output: &mut BufferedLatch<'_, W>, title: &str)
     output.put(b"\n");
 }
 
-// Puts `track STAMP gain NUM/DEN mute on|off title TITLE` and a line feed.
+// Writes `track STAMP gain NUM/DEN mute on|off title TITLE` and a line feed.
 fn put_track_line<W: Write>(
     output: &mut BufferedLatch<'_, W>,
     track: Stamp,
@@ -151,7 +151,7 @@ fn put_track_line<W: Write>(
     put_title(output, title);
 }
 
-// Puts the lines of clips, in order.
+// Writes the lines of clips, in order.
 #[tactic(auto, using(base_io::proofs::Putting::puts_none))]
 fn put_clip_lines<W: Write>(output: &mut BufferedLatch<'_, W>, clips: &[ClipView])
     ensures { Puts W.contents output.old output.new (flat_map clip_line clips.now) }
@@ -161,7 +161,7 @@ fn put_clip_lines<W: Write>(output: &mut BufferedLatch<'_, W>, clips: &[ClipView
     }
 }
 
-// Puts the line of a track and those of its clips.
+// Writes the line of a track and those of its clips.
 fn put_track_lines<A: Allocator, W: Write>(output: &mut BufferedLatch<'_, W>, view: &TrackView<A>)
     ensures { Puts W.contents output.old output.new (track_lines view.now) }
 {
@@ -169,7 +169,7 @@ fn put_track_lines<A: Allocator, W: Write>(output: &mut BufferedLatch<'_, W>, vi
     put_clip_lines(output, view.clips.items());
 }
 
-// Puts the line of a marker of these parts.
+// Writes the line of a marker with these parts.
 fn put_parts<W: Write>(
     output: &mut BufferedLatch<'_, W>,
     marker: Stamp,
@@ -186,15 +186,15 @@ fn put_parts<W: Write>(
     put_title(output, title);
 }
 
-// Puts `marker STAMP at N title TITLE` and a line feed, with the length after the position: both in
-// frames, in decimal, and the title as it is.
+// Writes `marker STAMP at N title TITLE` and a line feed, with the length after the position: both
+// in frames, in decimal, and the title unchanged.
 fn put_marker_line<A: Allocator, W: Write>(output: &mut BufferedLatch<'_, W>, view: &MarkerView<A>)
     ensures { Puts W.contents output.old output.new (marker_line view.now) }
 {
     put_parts(output, view.marker, view.at, view.len, view.title.text());
 }
 
-// Puts `held N` and a line feed.
+// Writes `held N` and a line feed.
 fn put_held_line<W: Write>(output: &mut BufferedLatch<'_, W>, held: u64)
     ensures { Puts W.contents output.old output.new (held_line held) }
 {
@@ -203,7 +203,7 @@ fn put_held_line<W: Write>(output: &mut BufferedLatch<'_, W>, held: u64)
     output.put(b"\n");
 }
 
-// Puts the lines of tracks and their clips, in order.
+// Writes the lines of tracks and their clips, in order.
 #[tactic(auto, using(base_io::proofs::Putting::puts_none))]
 fn put_tracks<A: Allocator, W: Write>(output: &mut BufferedLatch<'_, W>, tracks: &[TrackView<A>])
     ensures { Puts W.contents output.old output.new (flat_map track_lines tracks.now) }
@@ -213,12 +213,13 @@ fn put_tracks<A: Allocator, W: Write>(output: &mut BufferedLatch<'_, W>, tracks:
     }
 }
 
-// At how many titles `prefetch` looks.
+// The number of titles that `prefetch` reads.
 const PREFETCH_DISTANCE: usize = 16;
 
-// Looks at the titles of the next markers, and tells for how many of these that will do: not for
-// those whose title begins with NUL. Titles lie far apart in the memory of a great session, so that
-// each look at one waits for it; whoever looks at several waits for all of them together.
+// Reads the first byte of the titles of the next markers, and returns how many of these do not
+// begin with NUL: for this many markers no further call is needed. The titles of a large session
+// are far apart in memory, so that each read waits for memory; reads of several titles wait
+// together.
 fn prefetch<A: Allocator>(next: &[MarkerView<A>]) -> usize {
     let mut begun: usize = 0;
     for place in 0..PREFETCH_DISTANCE.min(next.len()) {
@@ -230,7 +231,7 @@ fn prefetch<A: Allocator>(next: &[MarkerView<A>]) -> usize {
     begun
 }
 
-// Puts the lines of markers, in order.
+// Writes the lines of markers, in order.
 #[tactic(auto, using(base_io::proofs::Putting::puts_none))]
 fn put_markers<A: Allocator, W: Write>(output: &mut BufferedLatch<'_, W>, markers: &[MarkerView<A>])
     ensures { Puts W.contents output.old output.new (flat_map marker_line markers.now) }
@@ -246,7 +247,7 @@ fn put_markers<A: Allocator, W: Write>(output: &mut BufferedLatch<'_, W>, marker
     }
 }
 
-/// Puts a session: a line for each track, followed by one for each of its clips, a line for each
+/// Writes a session: a line for each track, followed by one for each of its clips, a line for each
 /// marker, all in order, then `held N`. Each line ends with a line feed.
 pub(crate) fn put_session<A: Allocator, W: Write>(
     output: &mut BufferedLatch<'_, W>,

@@ -32,7 +32,7 @@ struct TrackHere<'a, A: Allocator> {
     cells: &'a TrackCells<A>,
 }
 
-// The track to which an operation gives a place.
+// The track that an operation gives a place.
 pub(crate) fn placed_track<A: Allocator>(op: &Op<A>) -> Option<Stamp>
     ensures { result ≡ placed_track op.now.stamp op.now.act }
 {
@@ -43,7 +43,7 @@ pub(crate) fn placed_track<A: Allocator>(op: &Op<A>) -> Option<Stamp>
     }
 }
 
-// A track with a title and clips, and with what its cells have beside.
+// A track with a title and clips, and with the other values from its cells.
 pub(crate) fn track_with<A: Allocator>(
     track: Stamp,
     cells: &TrackCells<A>,
@@ -80,7 +80,7 @@ fn track_from<A: Allocator + Clone>(
     Ok(track_with(track, cells, title, clips))
 }
 
-// Whether a track is present and stands at a place, from its cells.
+// Whether a track is present and at this place, from its cells.
 pub(crate) fn stands_at<A: Allocator>(track: Stamp, cells: &TrackCells<A>, place: Stamp) -> bool
     ensures { (ops : ListOf OpValue) → HoldsLast track_place_written track ops cells.now.place
         → HoldsTags track ops cells.now.presence → result ≡ stands_at ops track place }
@@ -88,7 +88,7 @@ pub(crate) fn stands_at<A: Allocator>(track: Stamp, cells: &TrackCells<A>, place
     cells.place.stamp() == place && cells.presence.is_present()
 }
 
-// The present track that stands where an operation put it, with its cells.
+// The present track whose current place is the one from this operation, with its cells.
 fn standing<'a, A: Allocator>(items: &'a ItemStates<A>, op: &Op<A>) -> Option<TrackHere<'a, A>>
     requires applied { AreApplied items.now }
     ensures none { IfNone result (standing items.now op.now ≡ None) }
@@ -103,8 +103,8 @@ fn standing<'a, A: Allocator>(items: &'a ItemStates<A>, op: &Op<A>) -> Option<Tr
     Some(TrackHere { track, cells })
 }
 
-// The present track that stands where an operation put it, with its clips, which are taken out of
-// those of all tracks.
+// The present track whose current place is the one from this operation, with its clips, which are
+// moved out of those of all tracks.
 fn track_at<A: Allocator + Clone>(
     alloc: &A,
     items: &ItemStates<A>,
@@ -124,8 +124,8 @@ fn track_at<A: Allocator + Clone>(
     Ok(Some(track_from(here.track, here.cells, sorted)?))
 }
 
-// The present tracks with their clips, in the order of the operations that put them where they
-// stand.
+// The present tracks with their clips, in the order of the operations that gave their current
+// places.
 pub(crate) fn tracks<A: Allocator + Clone>(
     alloc: &A,
     items: &ItemStates<A>,

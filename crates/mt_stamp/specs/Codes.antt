@@ -1,4 +1,4 @@
--- By what stamps and dots are told apart, where a finite map or set holds them.
+-- The codes by which a finite map or set distinguishes stamps and dots.
 use Rattle.std.specs.Prelude.{ℕ, refl}
 use Rattle.std.specs.Coded.{Coded, code_by, coded×, coded_ℕ}
 use Rattle.mt_stamp.specs.declared.name.Dot.{Dot}

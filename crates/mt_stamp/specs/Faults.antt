@@ -1,4 +1,4 @@
--- The number of each refusal.
+-- The number of each error.
 use Rattle.std.specs.Prelude.{ℕ}
 use Rattle.mt_stamp.specs.declared.fault.StampFault.{StampFault}
 use Rattle.mt_stamp.specs.declared.fault.StampFault.TheVariants.{Memory, ZeroClock, ZeroSeq}

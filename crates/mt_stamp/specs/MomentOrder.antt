@@ -1,4 +1,4 @@
--- The order of stamps is total: what an implementation of it has to show.
+-- The order of stamps is total, which an implementation of it has to prove.
 use Rattle.std.specs.Cmp.{IsTotalOrder, then_total, on_total, nat_cmp_total}
 use Rattle.mt_stamp.specs.StampOrder.{Stamp, stamp_cmp}
 

@@ -2,11 +2,11 @@
 use Rattle.std.specs.Prelude.{Bool, not, ◌&&◌, IsTrue}
 use Rattle.mt_stamp.specs.StampOrder.{Stamp}
 
--- of a tag: it was not removed
+-- a tag is left if it was not removed
 abbrev pub is_left : (Stamp → Bool) → Stamp → Bool
 is_left removed tag = not (removed tag)
 
--- of a stamp: it is a tag, and was not removed
+-- a stamp is live if it is a tag, and was not removed
 abbrev pub is_live : (Stamp → Bool) → (Stamp → Bool) → Stamp → Bool
 is_live tagged removed tag = tagged tag && is_left removed tag
 

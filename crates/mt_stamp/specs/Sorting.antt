@@ -6,12 +6,12 @@ use Rattle.std.specs.declared.cmp.Ordering.TheVariants.{Less}
 use Rattle.std.specs.Ordering.{match_ordering, is_lt}
 
 module _ {X : Type 0} (cmp : X → X → Ordering) where
-  -- x in its place in a list in order, before those that tie with it
+  -- x inserted into a sorted list, before the items that are tied with it
   abbrev pub insert_by : X → List X → List X
   insert_by x [] = x ∷ []
   insert_by x (y ∷ ys) = match_ordering (cmp x y) (x ∷ y ∷ ys) (x ∷ y ∷ ys) (y ∷ insert_by x ys)
 
-  -- the same items in rising order, those that tie as they stood
+  -- the same items in rising order; items that are tied keep their order
   abbrev pub sort_by : List X → List X
   sort_by [] = []
   sort_by (x ∷ xs) = insert_by x (sort_by xs)
@@ -26,8 +26,7 @@ module _ {X : Type 0} (cmp : X → X → Ordering) where
   RisesStrictly [] = Unit {0}
   RisesStrictly (x ∷ xs) = AllByRecursion (λ y. cmp x y ≡ Less) xs × RisesStrictly xs
 
-  -- Sorting gives a rising list of the same items: whatever is counted of each item adds up to the
-  -- same.
+  -- Sorting makes a rising list of the same items: any sum over the items is unchanged.
   pub record Sorts : Type 0 where
     pub rises : (xs : List X) → Rises (sort_by xs)
     pub same : (f : X → ℕ) (xs : List X) → sum_by f (sort_by xs) ≡ sum_by f xs

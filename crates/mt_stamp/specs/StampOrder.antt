@@ -1,12 +1,13 @@
--- What a stamp is, and the order of stamps and of dots.
+-- Stamps, and the order of stamps and of dots.
 use Rattle.std.specs.Prelude.{ℕ, Bool, ◌≤◌, ◌<◌, ◌^◌, ◌==◌, ◌&&◌}
 use Rattle.std.specs.Ordering.{nat_cmp, ordering_then}
 use Rattle.std.specs.declared.cmp.Ordering.{Ordering}
 use Rattle.mt_stamp.specs.declared.name.Replica.{Replica}
 use Rattle.mt_stamp.specs.declared.name.Dot.{Dot}
 
--- A stamp: a Lamport clock, the replica that made the operation, and how many it has made with this
--- one (timestamps that are unique and totally ordered: INRIA RR-7506, section 3.2.1).
+-- A stamp: a Lamport clock, the replica that made the operation, and the operation's number among
+-- those of the replica (timestamps that are unique and totally ordered: INRIA RR-7506, section
+-- 3.2.1).
 pub record Stamp : Type 0 where
   pub clock : ℕ
   pub replica : Replica
@@ -24,7 +25,7 @@ pub record IsStamp (m : Stamp) : Type 0 where
   pub seq_from : 1 ≤ m.seq
   pub seq_to : m.seq ≤ greatest
 
--- The dot of a stamp: which of a replica's operations it names.
+-- The dot of a stamp: the replica and the number of the operation.
 abbrev pub dot_of : Stamp → Dot
 dot_of m = record { replica = m.replica; seq = m.seq }
 
@@ -38,6 +39,6 @@ abbrev pub stamp_cmp : Stamp → Stamp → Ordering
 stamp_cmp a b = ordering_then (nat_cmp a.clock b.clock)
     (ordering_then (nat_cmp a.replica.0 b.replica.0) (nat_cmp a.seq b.seq))
 
--- whether two stamps are one
+-- whether two stamps are equal
 abbrev pub stamp_eq : Stamp → Stamp → Bool
 stamp_eq a b = (a.clock == b.clock) && ((a.replica.0 == b.replica.0) && (a.seq == b.seq))

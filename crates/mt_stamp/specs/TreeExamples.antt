@@ -1,4 +1,4 @@
--- Orders of places that compute.
+-- Worked examples of the order of places.
 use Rattle.std.specs.Prelude.{◌≡◌, ℕ, List, [], ◌∷◌, Option, Some, None, refl}
 use Rattle.std.specs.declared.cmp.Ordering.TheVariants.{Less, Equal, Greater}
 use Rattle.mt_stamp.specs.StampOrder.{Stamp}
@@ -11,14 +11,14 @@ stamp c r n = record { clock = c; replica = record { 0 = r }; seq = n }
 abbrev pub a : Stamp
 a = stamp 1 10 1
 
--- two that were added after it, at one time
+-- two places that were added after it concurrently
 abbrev pub x : Stamp
 x = stamp 2 10 2
 
 abbrev pub y : Stamp
 y = stamp 2 11 1
 
--- one more at the head, later than all of them
+-- another place at the head, later than all of them
 abbrev pub z : Stamp
 z = stamp 3 11 2
 
@@ -56,7 +56,7 @@ x_after_y = refl
 pub x_and_itself : tree_cmp four x x ≡ Equal
 x_and_itself = refl
 
--- what goes on from y stands before x, whichever is newer
+-- what is added after y comes before x, whatever its stamp
 abbrev pub five : List TreePlace
 five = added a None ∷ added x (Some a) ∷ added y (Some a) ∷ added z None
     ∷ added (stamp 4 10 3) (Some y) ∷ []
@@ -67,7 +67,7 @@ below_y = refl
 pub below_y_before_x : tree_cmp five (stamp 4 10 3) x ≡ Less
 below_y_before_x = refl
 
--- the order of the list says nothing
+-- the order in which the places are listed does not matter
 pub y_before_x_turned : tree_cmp (added z None ∷ added y (Some a) ∷ added x (Some a) ∷ added a None
     ∷ []) y x ≡ Less
 y_before_x_turned = refl

@@ -9,10 +9,10 @@ pub record Written (X : Type 0) : Type 0 where
   pub writer : Stamp
   pub value : X
 
--- by writer
+-- writes are compared by writer
 abbrev pub writer_cmp : {X : Type 0} → Written X → Written X → Ordering
 writer_cmp v w = stamp_cmp v.writer w.writer
 
--- the greater of two, and the first where neither is
+-- the greater of two, and the first if they are tied
 abbrev pub greater : {K : Type 0} → (K → K → Ordering) → K → K → K
 greater cmp a b = if is_lt (cmp a b) then b else a

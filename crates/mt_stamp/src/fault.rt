@@ -1,4 +1,4 @@
-//! Why a name was refused.
+//! The errors of names.
 
 ghost use Rattle.std.specs.Prelude.{◌≡◌};
 ghost use Rattle.mt_stamp.specs.Faults.{number_of};
@@ -7,7 +7,7 @@ ghost use Rattle.mt_stamp.specs.declared.fault.StampFault.TheVariants.{Memory};
 use std::alloc::AllocError;
 use thiserror::Error;
 
-/// Why a stamp could not be made, or a text not be read as a name.
+/// Why a stamp could not be made, or a text could not be read as a name.
 #[derive(Clone, Copy, Debug, PartialEq, Eq, Error)]
 pub enum StampFault {
     #[error("out of memory")]
@@ -23,7 +23,7 @@ pub enum StampFault {
 }
 
 impl StampFault {
-    /// The refusal's number: 0 to 4.
+    /// The error's number: 0 to 4.
     pub fn number(&self) -> u8
         ensures { result ≡ number_of self.now }
     {

@@ -1,4 +1,4 @@
-//! What holds of every stamp: each law is the contract of a function that does nothing.
+//! Laws of every stamp: each law is the contract of a function with an empty or trivial body.
 
 ghost use Rattle.std.specs.Prelude.{◌≡◌};
 ghost use Rattle.mt_stamp.specs.StampOrder.{stamp_cmp, dot_cmp};
@@ -10,34 +10,34 @@ use crate::name::Dot;
 use crate::stamp::Stamp;
 use std::cmp::Ordering;
 
-/// The order of stamps and of dots is total, and only equal ones tie.
+/// The order of stamps and of dots is total, and only equal ones are tied.
 pub fn order()
     ensures { AreOrdered }
 {}
 
-/// Stamps are compared in their order.
+/// `cmp` compares stamps in their order.
 pub fn compare_stamps(stamp: Stamp, other: Stamp) -> Ordering
     ensures { result ≡ stamp_cmp stamp other }
 {
     stamp.cmp(&other)
 }
 
-/// Dots are compared in their order.
+/// `cmp` compares dots in their order.
 pub fn compare_dots(dot: Dot, other: Dot) -> Ordering
     ensures { result ≡ dot_cmp dot other }
 {
     dot.cmp(&other)
 }
 
-/// No two stamps have one text.
+/// No two stamps have the same text.
 pub fn texts()
     ensures { TextsAreApart }
 {}
 
-/// The order of a tree of places, which is its walk: a path leads from the head to each place, and
-/// places are ordered by their paths; a place stands before those put after it, and of two put
-/// after one place, or at the head, the one with the greater stamp stands first, with all that is
-/// under it.
+/// The order of a tree of places, which is its preorder walk: a path leads from the head to each
+/// place, and places are ordered by their paths. A place comes before those that are put after it.
+/// Of two places that are put after the same place, or at the head, the one with the greater stamp
+/// comes first, with its whole subtree.
 pub fn tree_order()
     ensures path { PathsLeadThere }
     ensures ordered { TreesAreOrdered }

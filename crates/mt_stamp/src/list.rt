@@ -7,8 +7,8 @@ ghost use Rattle.std.specs.Borrow.{sem};
 use std::alloc::{AllocError, AllocFailed, Allocator, Global};
 use std::marker::Model;
 
-/// A list inside another type, kept in a `Vec` and seen as the list of its items. Only `clone` and
-/// `insert` take memory.
+/// A list inside another type, stored in a `Vec` and seen as the list of its items. Only `clone`
+/// and `insert` allocate memory.
 #[derive(Drop)]
 #[derive_where(Debug; T)]
 pub struct List<T, A: Allocator = Global> {
@@ -48,8 +48,9 @@ impl<T, A: Allocator> List<T, A> {
         items
     }
 
-    /// Puts an item in at an index of at most the length, before what stands there. Refused only
-    /// where memory is, and then the list is unchanged and the item comes back. Moves what follows.
+    /// Inserts an item at an index of at most the length, before the item that is there. Fails only
+    /// when an allocation fails, and then the list is unchanged and the item is returned. The later
+    /// items move.
     pub fn insert(&mut self, index: usize, item: T) -> Result<(), AllocFailed<T>>
         requires { index ≤ length self.old }
         ensures ok { OnOk result (self.new ≡ insert self.old index item) }
@@ -58,7 +59,7 @@ impl<T, A: Allocator> List<T, A> {
         self.items.insert(index, item)
     }
 
-    /// Takes the item at an index out. Moves what follows.
+    /// Removes the item at an index, and returns it. The later items move.
     pub fn remove(&mut self, index: usize) -> T
         requires { index < length self.old }
         ensures value { slice_get self.old index ≡ Some result }
@@ -67,7 +68,7 @@ impl<T, A: Allocator> List<T, A> {
         self.items.remove(index)
     }
 
-    /// The item at an index, to change in place.
+    /// A mutable reference to the item at an index.
     pub fn item_mut(&mut self, index: usize) -> &mut T
         requires { index < length self.old }
         ensures* writes_back { sem 𝓛 (LendsItem T.row A.row A.Allocator self.entry index result) }
@@ -78,8 +79,8 @@ impl<T, A: Allocator> List<T, A> {
 }
 
 impl<T: Drop, A: Allocator> List<T, A> {
-    /// Moves the item at an index to another: it is taken out, and then put in. Moves what lies
-    /// between. Takes no memory.
+    /// Moves the item at an index to another: it is removed, and then inserted. The items between
+    /// move. Allocates no memory.
     pub fn move_item(&mut self, from: usize, to: usize)
         requires from { from < length self.old }
         requires to { to < length self.old }

@@ -9,7 +9,7 @@ use crate::fault::StampFault;
 use std::alloc::Allocator;
 use uuid::Uuid;
 
-/// A replica: one editor's copy of a session, named by a UUID seen as a number of 128 bits.
+/// A replica: one editor's copy of a session, named by a UUID, seen as a number of 128 bits.
 #[derive(Clone, Copy, Debug, PartialEq, Eq, PartialOrd, Ord, Hash)]
 pub struct Replica(pub u128);
 
@@ -17,7 +17,7 @@ impl Replica {
     ghost use Rattle.mt_stamp.specs.Texts.{replica_text};
 
     /// Reads a replica in any form that the crate `uuid` parses: hyphenated, of 32 digits, in
-    /// braces or as a URN, in either case. Every other text is refused as `BadText` (4).
+    /// braces or as a URN, in either case. Fails with `BadText` (4) for every other text.
     pub fn read(text: &str) -> Result<Self, StampFault>
         ensures exact { MatchOption (parsed text.now) (result ≡ Err StampFault.BadText)
             (λ bytes. result ≡ Ok (record { 0 = from_be_bytes w128 bytes })) }
@@ -29,7 +29,7 @@ impl Replica {
         }
     }
 
-    /// The UUID in its hyphenated form, in lower case: 36 bytes. Refused only as `Memory` (0).
+    /// The UUID in its hyphenated form, in lower case: 36 bytes. Fails only with `Memory` (0).
     pub fn text<A: Allocator>(&self, alloc: A) -> Result<String<A>, StampFault>
         ensures ok { IfOk result (λ text. string_bytes text ≡ replica_text self.now) }
         ensures err { IfErr result (λ fault. fault ≡ StampFault.Memory) }
@@ -38,7 +38,7 @@ impl Replica {
         Ok(String::from_str(alloc, self.write(&mut buffer))?)
     }
 
-    // The same text, written into a buffer.
+    // The UUID in its hyphenated form, in lower case, written into a buffer.
     pub(crate) fn write<'b>(&self, buffer: &'b mut [u8; 45]) -> &'b str
         ensures { result.now ≡ replica_text self.now }
     {
@@ -46,8 +46,8 @@ impl Replica {
     }
 }
 
-/// The name of one operation of a replica: its operations are numbered 1, 2, 3 in the order in
-/// which it makes them. Dots are ordered by replica, then by number.
+/// The name of one operation of a replica: a replica's operations are numbered 1, 2, 3 in the order
+/// in which it makes them. Dots are ordered by replica, then by number.
 #[derive(Clone, Copy, Debug, PartialEq, Eq, PartialOrd, Ord, Hash)]
 pub struct Dot {
     pub replica: Replica,

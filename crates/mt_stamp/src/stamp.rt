@@ -15,13 +15,13 @@ use std::cmp::Ordering;
 use std::hash::{Hash, Hasher};
 use std::marker::Model;
 
-/// A stamp: the clock of an operation, the replica that made it and its number among that
-/// replica's. Clock and number lie between 1 and 2^62. Stamps are ordered by clock, then replica,
-/// then number.
+/// A stamp: the clock of an operation, the replica that made it, and its number among that
+/// replica's operations. Clock and number are between 1 and 2^62. Stamps are ordered by clock, then
+/// replica, then number.
 #[derive(Clone, Copy, Debug)]
 pub struct Stamp {
-    // First, since its 128 bits are aligned to 16 bytes: behind the clock it would leave 16 bytes
-    // of each stamp unused.
+    // First, since its 128 bits are aligned to 16 bytes: after the clock it would leave 16 bytes of
+    // each stamp unused.
     replica: Replica,
     clock: u64,
     seq: u64,
@@ -111,8 +111,8 @@ impl Stamp {
     /// The greatest clock and the greatest number: 2^62.
     pub const GREATEST: u64 = 1 << 62;
 
-    /// A stamp of its parts. Refused, in this order: `ZeroClock` (1) where the clock is 0,
-    /// `ZeroSeq` (2) where the number is 0, `TooGreat` (3) where either is above 2^62.
+    /// The stamp with these parts. Errors, in this order: `ZeroClock` (1) if the clock is 0,
+    /// `ZeroSeq` (2) if the number is 0, `TooGreat` (3) if either is above 2^62.
     pub fn new(clock: u64, replica: Replica, seq: u64) -> Result<Self, StampFault>
         ensures ok { IfOk result (λ s. (s ≡ record { clock = clock; replica = replica; seq = seq })
             × IsStamp s) }

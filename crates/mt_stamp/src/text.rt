@@ -14,13 +14,13 @@ use itoa::Buffer;
 use std::alloc::{AllocError, Allocator};
 use uuid::Uuid;
 
-// The most bytes that a stamp's text has: two numbers of 19 digits, two points and the 36 bytes of
-// a replica.
+// The greatest length of a stamp's text, in bytes: two numbers of 19 digits, two points and the 36
+// bytes of a replica.
 const LONGEST: usize = 76;
 
 impl Stamp {
     /// The stamp as `clock.seq.replica`: the numbers in decimal, the replica hyphenated in lower
-    /// case, at most 76 bytes. Refused only as `Memory` (0).
+    /// case, at most 76 bytes. Fails only with `Memory` (0).
     pub fn text<A: Allocator>(&self, alloc: A) -> Result<String<A>, StampFault>
         ensures ok { IfOk result (λ text. string_bytes text ≡ stamp_text self.now) }
         ensures err { IfErr result (λ fault. fault ≡ StampFault.Memory) }
@@ -30,8 +30,7 @@ impl Stamp {
         Ok(text)
     }
 
-    /// Writes the stamp's text after what `text` holds. Where memory is refused, `text` is as it
-    /// was.
+    /// Appends the stamp's text to `text`. If an allocation fails, `text` is unchanged.
     pub fn append_text<A: Allocator>(&self, text: &mut String<A>) -> Result<(), AllocError>
         ensures ok { OnOk result (string_bytes text.new ≡ string_bytes text.old
             ++ stamp_text self.now) }
@@ -48,8 +47,8 @@ impl Stamp {
         Ok(())
     }
 
-    /// Reads the text of a stamp. Every other spelling is refused as `BadText` (4): leading zeros,
-    /// capitals, other forms of a UUID, and numbers that no stamp has.
+    /// Reads the text of a stamp. Fails with `BadText` (4) for every other spelling: leading zeros,
+    /// capitals, other forms of a UUID, and numbers out of a stamp's ranges.
     pub fn read(text: &str) -> Result<Self, StampFault>
         ensures found { IfOk result (λ s. IsStamp s × (text.now ≡ stamp_text s)) }
         ensures only { (s : Stamp) → IsStamp s → text.now ≡ stamp_text s → result ≡ Ok s }
@@ -62,7 +61,7 @@ impl Stamp {
     }
 }
 
-// The stamp that a text is the text of.
+// The stamp with this text.
 fn stamp_of(text: &str) -> Option<Stamp>
     ensures found { IfSome result (λ s. IsStamp s × (text.now ≡ stamp_text s)) }
     ensures only { (s : Stamp) → IsStamp s → text.now ≡ stamp_text s → result ≡ Some s }
@@ -73,7 +72,7 @@ fn stamp_of(text: &str) -> Option<Stamp>
     Stamp::new(clock, replica, seq).ok()
 }
 
-// The number before the first point of a text, and what follows the point.
+// The number before the first point of a text, and the text after the point.
 fn number_and_rest(text: &str) -> Option<(u64, &str)>
     ensures found { IfSome result (λ p. text.now ≡ decimal p.0 ++ (point ∷ p.1.now)) }
     ensures only { (n : ℕ) (rest : List ℕ) → n < 2 ^ 64 → text.now ≡ decimal n ++ (point ∷ rest)
@@ -84,7 +83,7 @@ fn number_and_rest(text: &str) -> Option<(u64, &str)>
     Some((number, rest))
 }
 
-// The number that a text is the decimal spelling of: no sign and no leading zero.
+// The number with this decimal spelling, without sign and leading zeros.
 fn number(text: &str) -> Option<u64>
     ensures found { IfSome result (λ n. text.now ≡ decimal n) }
     ensures only { (n : ℕ) → n < 2 ^ 64 → text.now ≡ decimal n → result ≡ Some n }
@@ -100,7 +99,7 @@ fn number(text: &str) -> Option<u64>
     }
 }
 
-// The replica that a text names in hyphenated form and lower case.
+// The replica with this text, hyphenated in lower case.
 fn canonical_replica(text: &str) -> Option<Replica>
     ensures found { IfSome result (λ r. text.now ≡ replica_text r) }
     ensures only { (r : Replica) → r.0 < 2 ^ 128 → text.now ≡ replica_text r → result ≡ Some r }

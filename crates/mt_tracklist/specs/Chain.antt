@@ -2,7 +2,7 @@
 use Rattle.std.specs.Prelude.{ℕ, Bool, List, [], ◌∷◌, cond, ◌==◌}
 use Rattle.std.specs.List.{list_any}
 
--- how many places there are, and those that are in the list, in order
+-- the number of places, and the places in the list, in order
 pub record ChainList : Type 0 where
   pub count : ℕ
   pub items : List ℕ
@@ -11,7 +11,7 @@ pub record ChainList : Type 0 where
 abbrev pub has : List ℕ → ℕ → Bool
 has items place = list_any (λ x. place == x) items
 
--- a place put right after another, and at the end where that one is missing
+-- a place inserted right after another, and at the end if that one is missing
 abbrev pub put_after : ℕ → ℕ → List ℕ → List ℕ
 put_after before place [] = place ∷ []
 put_after before place (x ∷ xs) = cond (x == before) (x ∷ place ∷ xs)

@@ -1,4 +1,4 @@
--- When elements are equal.
+-- Equality of elements.
 use Rattle.std.specs.Prelude.{◌≡◌, Bool, true, false, ◌&&◌, Option, Some, None, refl}
 use Rattle.std.specs.Cmp.{IsEquivalence}
 use Rattle.std.proofs.Common.{sym, ap, ◌∙◌, true≢false}
@@ -11,12 +11,12 @@ same_after None None = true
 same_after (Some p) (Some q) = stamp_eq p q
 same_after _ _ = false
 
--- whether two elements have the same place, put after the same one, of the same track
+-- whether two elements have the same place, the same reference and the same track
 abbrev pub same_placed : Placed → Placed → Bool
 same_placed a b = stamp_eq a.place b.place && (same_after a.after b.after
     && stamp_eq a.track b.track)
 
--- Elements that pass the test are one, and each passes it with itself.
+-- Elements that pass the test are equal, and each passes it with itself.
 
 pub both : (a b : Bool) → (a && b) ≡ true → (a ≡ true) × (b ≡ true)
 both true b e = (refl, e)

@@ -1,4 +1,4 @@
--- Insertions that compute.
+-- Worked examples of insertions.
 use Rattle.std.specs.Prelude.{◌≡◌, [], ◌∷◌, Option, Some, None, refl}
 use Rattle.mt_stamp.specs.StampOrder.{Stamp}
 use Rattle.mt_stamp.specs.TreeExamples.{a, x, y, z, stamp}
@@ -14,7 +14,7 @@ at_head p = placed p None
 abbrev pub after_a : Stamp → Placed
 after_a p = placed p (Some a)
 
--- the order of the four places is z a y x, whichever comes first
+-- the order of the four places is z a y x, whichever is inserted first
 pub rising : inserted (inserted (inserted (inserted [] (at_head a)) (after_a x)) (after_a y))
     (at_head z) ≡ at_head z ∷ at_head a ∷ after_a y ∷ after_a x ∷ []
 rising = refl
@@ -23,7 +23,7 @@ pub x_after_y : inserted (inserted (inserted (inserted [] (at_head z)) (at_head 
     (after_a x) ≡ at_head z ∷ at_head a ∷ after_a y ∷ after_a x ∷ []
 x_after_y = refl
 
--- what is under a greater sibling is skipped with it
+-- the subtree of a greater sibling is skipped with it
 pub past_all_under_it : inserted (at_head a ∷ after_a y ∷ placed (stamp 4 10 3) (Some y) ∷ [])
     (after_a x) ≡ at_head a ∷ after_a y ∷ placed (stamp 4 10 3) (Some y) ∷ after_a x ∷ []
 past_all_under_it = refl

@@ -1,4 +1,4 @@
--- The number of each refusal.
+-- The number of each error.
 use Rattle.std.specs.Prelude.{ℕ}
 use Rattle.mt_tracklist.specs.declared.fault.TrackListFault.{TrackListFault}
 use Rattle.mt_tracklist.specs.declared.fault.TrackListFault.TheVariants.{Memory, NoSuchPlace}

@@ -1,4 +1,4 @@
-//! A list of places that are linked each to the next.
+//! A linked list of places.
 
 ghost use Rattle.std.specs.Prelude.{◌≡◌, ◌<◌, true, false, [], ◌∷◌, IfOk};
 ghost use Rattle.mt_tracklist.specs.Chain.{has, put_after};
@@ -6,8 +6,8 @@ ghost use Rattle.mt_tracklist.specs.Chain.{has, put_after};
 use std::alloc::{AllocError, Allocator};
 use std::marker::Model;
 
-/// A list of places below a count, no place twice, into which a place is put right after another in
-/// constant time.
+/// A list of places below a count, without duplicates, into which a place is inserted right after
+/// another in constant time.
 #[derive(Drop)]
 pub(crate) struct Chain<A: Allocator> {
     first: Option<usize>,
@@ -28,7 +28,7 @@ impl<A: Allocator> Model for Chain<A> {
 }
 
 impl<A: Allocator> Chain<A> {
-    /// The empty list, into which places below `count` may be put.
+    /// The empty list, into which places below `count` may be inserted.
     pub(crate) fn new(alloc: A, count: usize) -> Result<Self, AllocError>
         ensures { IfOk result (λ chain. chain ≡ record { count = count; items = [] }) }
     {
@@ -39,7 +39,7 @@ impl<A: Allocator> Chain<A> {
         Ok(Chain { first: None, next })
     }
 
-    /// Puts a place in front.
+    /// Inserts a place at the front.
     pub(crate) fn insert_first(&mut self, place: usize)
         requires in_range { place < self.old.count }
         requires new { has self.old.items place ≡ false }
@@ -50,7 +50,7 @@ impl<A: Allocator> Chain<A> {
         self.first = Some(place);
     }
 
-    /// Puts a place right after one that is in the list.
+    /// Inserts a place right after one that is in the list.
     pub(crate) fn insert_after(&mut self, before: usize, place: usize)
         requires there { has self.old.items before ≡ true }
         requires in_range { place < self.old.count }
@@ -62,7 +62,7 @@ impl<A: Allocator> Chain<A> {
         self.next[before] = Some(place);
     }
 
-    /// The places in order. The list is walked once.
+    /// The places in order, by one walk of the list.
     pub(crate) fn to_vec<B: Allocator>(&self, alloc: B) -> Result<Vec<usize, B>, AllocError>
         ensures { IfOk result (λ places. places.items ≡ self.now.items) }
     {

@@ -1,4 +1,4 @@
-//! Why a place could not be put in.
+//! The errors of a list of places.
 
 ghost use Rattle.std.specs.Prelude.{◌≡◌};
 ghost use Rattle.mt_tracklist.specs.Faults.{number_of};
@@ -7,13 +7,13 @@ ghost use Rattle.mt_tracklist.specs.declared.fault.TrackListFault.TheVariants.{M
 use std::alloc::{AllocError, AllocFailed};
 use thiserror::Error;
 
-/// Why a place could not be put in, or a list not be copied.
+/// Why a place could not be inserted, or a list could not be copied.
 #[derive(Clone, Copy, Debug, PartialEq, Eq, Error)]
 pub enum TrackListFault {
-    /// A growth was refused.
+    /// An allocation failed.
     #[error("out of memory")]
     Memory,
-    /// The place that it was to be put after is not in the list.
+    /// The place that the new one is to be put after is not in the list.
     #[error("there is no such place to put it after")]
     NoSuchPlace,
     /// The place is in the list already.
@@ -22,7 +22,7 @@ pub enum TrackListFault {
 }
 
 impl TrackListFault {
-    /// The refusal's number: 0, 18 or 19.
+    /// The error's number: 0, 18 or 19.
     pub fn number(&self) -> u8
         ensures { result ≡ number_of self.now }
     {

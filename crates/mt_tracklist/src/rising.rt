@@ -12,7 +12,7 @@ use crate::chain::Chain;
 use mt_stamp::Stamp;
 use std::alloc::{AllocError, Allocator};
 
-/// A place, and what it was put after.
+/// A place, and the place that it was put after.
 #[derive(Clone, Copy, Debug)]
 pub struct PlaceAfter {
     /// The stamp of the operation that added the place.
@@ -21,7 +21,7 @@ pub struct PlaceAfter {
     pub after: Option<Stamp>,
 }
 
-// Whether the place at an index has a stamp.
+// Whether the place at an index has this stamp.
 fn is_at(places: &[PlaceAfter], index: usize, stamp: Stamp) -> bool
     requires rising { RisesStrictly stamp_cmp (stamps_of (given_tree places.now)) }
     requires tree { IsTree (given_tree places.now) }
@@ -34,8 +34,8 @@ fn is_at(places: &[PlaceAfter], index: usize, stamp: Stamp) -> bool
     }
 }
 
-// The index of the place of a stamp: mostly the one before a given index, and else it is searched
-// for.
+// The index of the place of a stamp: usually the one before a given index, and otherwise found by a
+// search.
 fn index_of(places: &[PlaceAfter], stamp: Stamp, index: usize) -> Option<usize>
     requires rising { RisesStrictly stamp_cmp (stamps_of (given_tree places.now)) }
     requires tree { IsTree (given_tree places.now) }
@@ -50,7 +50,7 @@ fn index_of(places: &[PlaceAfter], stamp: Stamp, index: usize) -> Option<usize>
     }
 }
 
-// Puts an index into the chain right after that of the place of a stamp, or in front.
+// Inserts an index into the chain right after that of the place of a stamp, or at the front.
 fn link_place<A: Allocator>(
     chain: &mut Chain<A>,
     places: &[PlaceAfter],
@@ -75,10 +75,10 @@ fn link_place<A: Allocator>(
     }
 }
 
-/// The indexes of places that are given by rising stamp, in the order of their tree: each is put
-/// right after what it was put after, or in front, and so before all older ones that were put
-/// there. n places cost n log n, since what each was put after is searched for where that is not
-/// the one before it. Refused only where an allocation failed.
+/// The indexes of places that are given by rising stamp, in the order of their tree. Each is
+/// inserted right after the place that it was put after, or at the front, and so before all older
+/// ones that were put there. n places cost n log n, since the place that another was put after is
+/// searched for unless it is the previous one. Fails only when an allocation fails.
 pub fn order_of<A: Allocator + Clone>(
     alloc: &A,
     places: &[PlaceAfter],

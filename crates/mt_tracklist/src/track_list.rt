@@ -12,7 +12,7 @@ use mt_stamp::Stamp;
 use std::alloc::{Allocator, Global};
 use std::marker::Model;
 
-/// A place, what it was put after, and the track that it is for.
+/// A place, the place that it was put after, and the track that it belongs to.
 #[derive(Clone, Copy, Debug, PartialEq, Eq)]
 pub struct Placed {
     /// The stamp of the operation that added the place.
@@ -23,8 +23,8 @@ pub struct Placed {
     pub track: Stamp,
 }
 
-/// Whether a place has a greater stamp than what it is to be put after, as an insertion asks; at
-/// the head it always has.
+/// Whether a place has a greater stamp than the one that it is to be put after, which an insertion
+/// requires; always true at the head.
 pub fn is_newer(place: Stamp, after: Option<Stamp>) -> bool
     ensures { IsTrue result ↔ IsNewer place after }
 {
@@ -34,9 +34,9 @@ pub fn is_newer(place: Stamp, after: Option<Stamp>) -> bool
     }
 }
 
-/// A list of places in the order of their tree: each place stands before those put after it, and
-/// these by falling stamp, each with all that is under it. Which list it is depends on the places
-/// alone, in whatever order they came.
+/// A list of places in the order of their tree: each place comes before those put after it, and
+/// these are ordered by falling stamp, each with its subtree. The list depends only on the places,
+/// and not on the order in which they came.
 #[derive(Drop)]
 pub struct TrackList<A: Allocator = Global> {
     places: Vec<Placed, A>,
@@ -55,7 +55,7 @@ impl<A: Allocator> Model for TrackList<A> {
 }
 
 impl<A: Allocator> TrackList<A> {
-    /// The list of no place. Takes no memory.
+    /// The empty list. Allocates no memory.
     pub fn new(alloc: A) -> Self
         ensures { result ≡ [] }
     {
@@ -64,7 +64,7 @@ impl<A: Allocator> TrackList<A> {
         }
     }
 
-    /// The list of places that stand in the order of their tree already.
+    /// The list of places that are already in the order of their tree.
     pub fn from_ordered(places: Vec<Placed, A>) -> Self
         requires { IsOrdered places.items }
         ensures { result ≡ places.items }
@@ -80,20 +80,19 @@ impl<A: Allocator> TrackList<A> {
         &self.places
     }
 
-    /// Where a place stands in `order`, counted from 0, or `None` where it is not there. Looks at
-    /// one element after another.
+    /// The index of a place in `order`, counted from 0, or `None` if it is not there. A linear
+    /// search.
     pub fn index_of(&self, place: &Stamp) -> Option<usize>
         ensures { result ≡ position (λ t. stamp_eq t.place place.now) self.now }
     {
         self.places.iter().position(|placed| placed.place == *place)
     }
 
-    /// Puts a place of a track right of the place that it is put after, or in front for `None`,
-    /// past the elements up to the first with a smaller stamp, and leaves the others in their
-    /// order. Refused, in this order: `PlaceThere` (19) where the place is in the list,
-    /// `NoSuchPlace` (18) where `after` is not; and as `Memory` (0) where an allocation failed.
-    /// After a refusal the list is unchanged. The place has to have a greater stamp than `after`,
-    /// which `is_newer` tells.
+    /// Inserts a place of a track right of the place that it is put after, or at the front for
+    /// `None`, past the elements up to the first with a smaller stamp. The others keep their order.
+    /// Errors, in this order: `PlaceThere` (19) if the place is in the list; `NoSuchPlace` (18) if
+    /// `after` is not; and `Memory` (0) when an allocation fails. After an error the list is
+    /// unchanged. The place has to have a greater stamp than `after` (see `is_newer`).
     pub fn insert(
         &mut self,
         place: Stamp,
@@ -126,8 +125,8 @@ impl<A: Allocator> TrackList<A> {
         Ok(())
     }
 
-    /// An equal list, on a clone of the allocator. Refused only as `Memory` (0), where an
-    /// allocation failed.
+    /// An equal list, on a clone of the allocator. Fails only with `Memory` (0), when an allocation
+    /// fails.
     pub fn try_clone(&self) -> Result<Self, TrackListFault>
     where
         A: Clone,
@@ -148,7 +147,8 @@ fn has_place(places: &[Placed], place: Stamp) -> bool
     places.iter().any(|placed| placed.place == place)
 }
 
-// Right of what a place is put after, or the front; `None` where that is not in the list.
+// The index right of the place that another is put after, or the front; `None` if that place is not
+// in the list.
 fn right_of(places: &[Placed], after: Option<Stamp>) -> Option<usize>
     ensures { MatchOption result (IsReferenceMissing places.now after)
         (λ start. (start ≡ right_of places.now after) × IsReferenceThere places.now after
@@ -165,8 +165,8 @@ fn right_of(places: &[Placed], after: Option<Stamp>) -> Option<usize>
     None
 }
 
-// The index of the first element from `start` on with a smaller stamp; the list's length where
-// there is none.
+// The index of the first element from `start` on with a smaller stamp; the list's length if there
+// is none.
 fn after_skipping(places: &[Placed], start: usize, place: Stamp) -> usize
     requires { start ≤ length places.now }
     ensures value { result ≡ start + skipped place (drop start places.now) }

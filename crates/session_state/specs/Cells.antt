@@ -1,4 +1,4 @@
--- The items of a kind, and what the cells of items hold of the operations noted.
+-- The items of a kind, and the contents of the cells of items after the applied operations.
 use Rattle.std.specs.Prelude.{◌≡◌, ◌≤◌, List, Some, is_some, map, filter, reverse}
 use Rattle.std.specs.Map.{lookup, keys_of}
 use Rattle.mt_stamp.specs.StampOrder.{Stamp, stamp_cmp, stamp_eq}
@@ -49,15 +49,15 @@ pub record HoldsTrack {A : Type 0} (item : Stamp) (ops : List Op) (cells : Track
   pub mute : HoldsLast mute_written item ops cells.mute
   pub presence : HoldsTags item ops cells.presence
 
--- the items of a kind, in the order in which they were noted
+-- the items of a kind, in the order in which they were applied
 abbrev pub items_of : Role → List Op → List Stamp
 items_of kind ops = map stamp_of (reverse (filter (fits kind) ops))
 
--- and by rising stamp
+-- the items of a kind, by rising stamp
 abbrev pub rising_items : Role → List Op → List Stamp
 rising_items kind ops = sort_by stamp_cmp (items_of kind ops)
 
--- A working predicate: the cells of the items of a kind, and of nothing else.
+-- A working predicate: the cells of the items of a kind, and no others.
 pub record HoldsEach {C : Type 0} (kind : Role) (Holds : Stamp → List Op → C → Type 0)
     (ops : List Op) (cells : List (Stamp × C)) : Type 0 where
   pub each : (item : Stamp) (c : C) → lookup (stamp_eq item) cells ≡ Some c → Holds item ops c

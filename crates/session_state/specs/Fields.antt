@@ -1,4 +1,4 @@
--- What registers hold of the operations noted.
+-- The contents of registers after the applied operations.
 use Rattle.std.specs.Prelude.{◌≡◌, Option, Some, None, List}
 use Rattle.mt_stamp.specs.StampOrder.{Stamp}
 use Rattle.mt_stamp.specs.Written.{Written, writer_cmp, greater}
@@ -10,8 +10,8 @@ abbrev pub HoldsLast : {X : Type 0} → (Stamp → Body → Option (Write X)) �
     → Written X → Type 0
 HoldsLast field item ops r = last_write field item ops ≡ Some r
 
--- A working definition: a register after an operation of another stamp that writes a value, or
--- none. It is the later of both.
+-- A working definition: a register after an operation of another stamp that writes a value or none:
+-- the later write of the two.
 abbrev pub rewritten : {X : Type 0} → Written X → Stamp → Option X → Written X
 rewritten r stamp None = r
 rewritten r stamp (Some value) = greater writer_cmp r (record { writer = stamp; value = value })

@@ -1,11 +1,10 @@
--- What an operation does to cells, and they still hold what the operations noted leave. Working
--- predicates.
+-- Working predicates: the cells after an operation still match the applied operations.
 use Rattle.std.specs.Prelude.{List, ◌∷◌}
 use Rattle.mt_stamp.specs.StampOrder.{Stamp}
 use Rattle.mt_op.specs.OpValue.{Op}
 use Rattle.session_state.specs.Applying.{CanApply, AreApplied, Concerns}
 
--- cells made of an operation that adds its own item
+-- the cells made by an operation that adds its own item
 abbrev pub Makes : {C : Type 0} → (Stamp → List Op → C → Type 0) → Op → C → Type 0
 Makes Holds o made = (ops : List Op) → CanApply ops o → AreApplied ops
     → Holds o.stamp (o ∷ ops) made

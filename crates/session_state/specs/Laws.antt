@@ -1,4 +1,4 @@
--- What the answers of items depend on.
+-- What the results of items depend on.
 use Rattle.std.specs.Prelude.{◌≡◌, List}
 use Rattle.mt_stamp.specs.StampOrder.{Stamp}
 use Rattle.mt_op.specs.declared.need.Role.{Role}
@@ -11,7 +11,7 @@ use Rattle.mt_op.specs.Writes.{fades_written, marker_length_written, last_write}
 use Rattle.session_state.specs.Applying.{is_need_met}
 use Rattle.session_state.specs.Cells.{rising_items}
 
--- Two lists of operations give the same answer to each question.
+-- Two lists of operations give the same result to each query.
 pub record AnswerAlike (r u : List Op) : Type 0 where
   pub needs : (need : Need) → is_need_met r need ≡ is_need_met u need
   pub items : (kind : Role) → rising_items kind r ≡ rising_items kind u

@@ -1,8 +1,8 @@
-//! Where the cells of the items of the next operations stand.
+//! Hints: the indexes of the cells of the next operations' items.
 //!
-//! The cells of a great log lie far apart, so that each look at some waits for the memory. Whoever
-//! looks for those of several operations at once waits for all of them together. Nothing here
-//! decides anything: what it tells is where to look first, and no clause speaks of it.
+//! The cells of a large log are far apart in memory, so that each look-up waits for memory.
+//! Look-ups for several operations at once wait together. Nothing here changes a result: the
+//! indexes are only hints where to look first, and no contract states anything about them.
 
 use crate::cells::{ClipCells, MarkerCells};
 use crate::items::ItemStates;
@@ -10,15 +10,16 @@ use mt_op::{Body, Op};
 use mt_stamp::Stamp;
 use std::alloc::Allocator;
 
-/// How many operations `prefetch` looks at.
+/// The number of operations that `prefetch` visits.
 pub const PREFETCH_DISTANCE: usize = 32;
 
-// An index at which no cells stand.
+// An index without cells.
 pub(crate) const NO_HINT: usize = usize::MAX;
 
-// Whether what an operation changes of a marker is its own already. It is not, where the operation
-// has yet to be noted; but to tell so, that part of the cells is read, and is at hand when the
-// operation is noted: of a title its first byte, which goes then.
+// Whether the field of a marker that an operation changes is already from this operation. It is not
+// for an operation that is yet to be applied, but the comparison reads that part of the cells, so
+// that it is in the cache when the operation is applied. Of a title it reads the first byte, since
+// the title is dropped then.
 fn is_marker_changed<A: Allocator>(cells: &MarkerCells<A>, op: &Op<A>) -> bool {
     match op.body() {
         Body::MoveMarker { .. } => cells.position.stamp() == op.stamp(),
@@ -28,7 +29,8 @@ fn is_marker_changed<A: Allocator>(cells: &MarkerCells<A>, op: &Op<A>) -> bool {
     }
 }
 
-// The same of a clip.
+// Whether the field of a clip that an operation changes is already from this operation, read for
+// the same reason.
 fn is_clip_changed<A: Allocator>(cells: &ClipCells<A>, op: &Op<A>) -> bool {
     match op.body() {
         Body::MoveClip { .. } => cells.place.stamp() == op.stamp(),
@@ -41,10 +43,10 @@ fn is_clip_changed<A: Allocator>(cells: &ClipCells<A>, op: &Op<A>) -> bool {
 }
 
 impl<A: Allocator> ItemStates<A> {
-    // Where the cells of an operation's item are likely to stand. No cells are looked at.
+    // The likely index of the cells of an operation's item. No cells are read.
     fn likely(&self, op: &Op<A>) -> usize {
         match op.body() {
-            // what an operation adds is nowhere yet
+            // what an operation adds has no cells yet
             Body::AddTrack { .. } | Body::AddClip { .. } | Body::AddMarker { .. } => NO_HINT,
             Body::MoveClip { .. }
             | Body::TrimClip { .. }
@@ -55,7 +57,7 @@ impl<A: Allocator> ItemStates<A> {
         }
     }
 
-    // Where the cells of an item stand among those of its kind; at any index where there are none.
+    // The index of the cells of an item among those of its kind, and `NO_HINT` if it has none.
     fn near(&self, item: Stamp) -> usize {
         match self.markers.index_of(item) {
             Some(index) => index,
@@ -66,7 +68,7 @@ impl<A: Allocator> ItemStates<A> {
         }
     }
 
-    // The same of an operation's item, looked for at an index first.
+    // The index of the cells of an operation's item, with the likely index tried first.
     fn found(&self, likely: usize, op: &Op<A>) -> usize {
         let item = op.item();
         if likely == NO_HINT
@@ -78,7 +80,7 @@ impl<A: Allocator> ItemStates<A> {
         self.near(item)
     }
 
-    // The index again, where what the operation changes there is not its own yet.
+    // The index again, or `NO_HINT` if the field that the operation changes is already from it.
     fn read(&self, near: usize, op: &Op<A>) -> usize {
         let item = op.item();
         if self.markers.stands_at(near, item) {
@@ -94,13 +96,13 @@ impl<A: Allocator> ItemStates<A> {
         }
     }
 
-    /// Where the cells of the items of the next operations stand, of at most `PREFETCH_DISTANCE` of
-    /// these: where `are_needs_met_near` and `apply_near` look first. What the operations change of
-    /// these cells is read by then.
+    /// The indexes of the cells of the next operations' items, for at most `PREFETCH_DISTANCE`
+    /// operations: `are_needs_met_near` and `apply_near` look there first. The parts of the cells
+    /// that the operations change have been read afterwards.
     pub fn prefetch(&self, next: &[&Op<A>]) -> [usize; PREFETCH_DISTANCE] {
         let mut near = [NO_HINT; PREFETCH_DISTANCE];
         let count = PREFETCH_DISTANCE.min(next.len());
-        // one after another, so that no look waits for what another one has to find first
+        // in separate loops, so that no look-up waits for the result of another
         for place in 0..count {
             near[place] = self.likely(next[place]);
         }

@@ -17,11 +17,11 @@ use std::mem;
 /// The fields of a marker, each with the stamp of its last writer, and its presence.
 #[derive(Drop)]
 pub struct MarkerCells<A: Allocator> {
-    /// Where it stands, in frames of the session.
+    /// Its position, in frames of the session.
     pub position: Register<u32>,
     /// Its title.
     pub title: Register<Title<A>>,
-    /// How many frames it spans, 0 for a point.
+    /// The number of frames that it spans, 0 for a point.
     pub len: Register<u32>,
     /// Its tags.
     pub presence: ItemPresence<A>,
@@ -39,7 +39,7 @@ pub struct ClipCells<A: Allocator> {
     pub gain: Register<Gain>,
     /// Whether it is muted.
     pub mute: Register<bool>,
-    /// Over how many frames it fades in and out.
+    /// The numbers of frames over which it fades in and out.
     pub fades: Register<FadeLengths>,
     /// The recording that it plays.
     pub source: Digest,
@@ -63,8 +63,8 @@ pub struct TrackCells<A: Allocator> {
 }
 
 impl<A: Allocator> TrackCells<A> {
-    /// Takes the title out, and leaves an empty one in its place, which takes no memory. Refused
-    /// only as `AllocError`; the cells are then as they were.
+    /// Moves the title out, and leaves an empty one, which allocates no memory. Fails only with
+    /// `AllocError`; the cells are then unchanged.
     pub fn take_title(&mut self, alloc: &A) -> Result<Title<A>, AllocError>
     where
         A: Clone,
@@ -98,7 +98,7 @@ fn remove_tags<A: Allocator + Clone>(
     Ok(())
 }
 
-// Notes what an operation on an item does to its presence.
+// Applies the effect of an operation on the presence of its item.
 pub(crate) fn mark<A: Allocator + Clone>(
     alloc: &A,
     presence: &mut ItemPresence<A>,

@@ -17,7 +17,7 @@ use mt_cells::Register;
 use mt_op::{Body, FadeLengths, Gain, Op, Placement, TrimRange};
 use std::alloc::{AllocError, Allocator};
 
-// The cells of the clip that an operation adds, where it adds one.
+// The cells of the clip that an operation adds, if it adds one.
 fn added<A: Allocator + Clone>(op: &Op<A>) -> Result<Option<ClipCells<A>>, AllocError>
     ensures ok { IfOk result (λ cells. MatchOption cells (adds_clip op.now.act ≡ false)
         (Makes HoldsClip op.now)) }
@@ -63,7 +63,7 @@ fn added<A: Allocator + Clone>(op: &Op<A>) -> Result<Option<ClipCells<A>>, Alloc
     }))
 }
 
-// Notes an operation on a clip.
+// Applies an operation to a clip.
 fn change<A: Allocator + Clone>(
     alloc: &A,
     cells: &mut ClipCells<A>,
@@ -80,7 +80,7 @@ fn change<A: Allocator + Clone>(
     mark(alloc, &mut cells.presence, op)
 }
 
-// Notes an operation among the clips.
+// Applies an operation to the clips.
 pub(crate) fn apply<A: Allocator + Clone>(
     alloc: &A,
     clips: &mut StampMap<ClipCells<A>, A>,

@@ -1,4 +1,4 @@
-//! What operations write, and the registers that hold it.
+//! The values that operations write, and the registers that hold them.
 
 ghost use Rattle.std.specs.Prelude.{◌≡◌, ◌≢◌, ◌≤◌, option_map, IfOk, OnOk, IfSome};
 ghost use Rattle.mt_op.specs.Writes.{title_written, gain_written, mute_written};
@@ -12,7 +12,7 @@ use mt_op::{Body, FadeLengths, Gain, Op, Placement, Title, TrimRange};
 use mt_stamp::Stamp;
 use std::alloc::{AllocError, Allocator};
 
-// Joins what an operation of this stamp writes, where it writes anything.
+// Joins the value that an operation of this stamp writes, if it writes one.
 pub(crate) fn write<T: Ord + Drop>(
     register: &mut Register<T>,
     stamp: Stamp,
@@ -68,7 +68,7 @@ pub(crate) fn written_mute<A: Allocator>(op: &Op<A>) -> Option<bool>
     }
 }
 
-// The first frame and the length, at least 1, that an operation writes.
+// The first frame and the length, at least 1, of the trim that an operation writes.
 pub(crate) fn written_trim<A: Allocator>(op: &Op<A>) -> Option<TrimRange>
     ensures value { result ≡ option_map (λ w. w.value) (trim_written op.now.stamp op.now.act) }
     ensures positive { IfSome result (λ trim. 1 ≤ trim.len) }
@@ -92,7 +92,7 @@ pub(crate) fn written_position<A: Allocator>(op: &Op<A>) -> Option<u32>
     }
 }
 
-// The fades, none longer than may be, that an operation writes.
+// The fades that an operation writes, within the greatest length.
 pub(crate) fn written_fades<A: Allocator>(op: &Op<A>) -> Option<FadeLengths>
     ensures value { result ≡ option_map (λ w. w.value) (fades_written op.now.stamp op.now.act) }
     ensures short { IfSome result AreShort }
@@ -138,7 +138,7 @@ pub(crate) fn written_clip_place<A: Allocator>(op: &Op<A>) -> Option<Placement>
     }
 }
 
-// What an operation puts a track after.
+// The place that an operation puts a track after.
 pub(crate) fn written_track_place<A: Allocator>(op: &Op<A>) -> Option<Option<Stamp>>
     ensures { result ≡ option_map (λ w. w.value) (track_place_written op.now.stamp op.now.act) }
 {

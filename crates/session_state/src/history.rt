@@ -5,7 +5,8 @@ ghost use Rattle.std.specs.Borrow.{ftrue};
 
 use std::marker::{Model, PhantomData};
 
-// What was noted, the last one first. It takes no memory, and its methods do nothing at run time.
+// The applied operations, the last one first. It occupies no memory, and its methods do nothing at
+// run time.
 #[derive(Drop)]
 pub(crate) struct History<T> {
     of: PhantomData<T>,

@@ -36,13 +36,13 @@ use mt_stamp::Stamp;
 use std::alloc::{AllocError, Allocator, Global};
 use std::marker::Model;
 
-/// What noted operations leave of tracks, clips and markers: the last write of each field, and the
-/// tags of each item. It is seen as the list of the operations noted, the last one first. Each was
-/// noted after those that it needs.
+/// The tracks, clips and markers after the applied operations: the last write of each field, and
+/// the tags of each item. It is seen as the list of the applied operations, the last one first.
+/// Each was applied after those that it needs.
 ///
-/// A write that comes late does not win over one of a greater stamp, and a removal takes away the
-/// tags that it names and no others, so each answer depends on which operations were noted, and not
-/// on their order (`laws::any_order`).
+/// A write does not replace one with a greater stamp, however late it comes, and a removal removes
+/// only the tags that it names. So each result depends on which operations were applied, and not on
+/// their order (`laws::any_order`).
 #[derive(Drop)]
 pub struct ItemStates<A: Allocator = Global> {
     alloc: A,
@@ -70,7 +70,7 @@ impl<A: Allocator> Model for ItemStates<A> {
 }
 
 impl<A: Allocator> ItemStates<A> {
-    // Nothing noted, with memory for so many items.
+    // No operations applied, with capacity for these numbers of items.
     fn with_room(alloc: A, room: Capacity) -> Result<Self, AllocError>
     where
         A: Clone,
@@ -86,7 +86,7 @@ impl<A: Allocator> ItemStates<A> {
         })
     }
 
-    /// Nothing noted. Refused only as `AllocError`, where an allocation failed.
+    /// No operations applied. Fails only with `AllocError`, when an allocation fails.
     pub fn new(alloc: A) -> Result<Self, AllocError>
     where
         A: Clone,
@@ -95,10 +95,10 @@ impl<A: Allocator> ItemStates<A> {
         ItemStates::with_room(alloc, Capacity::NONE)
     }
 
-    /// Nothing noted, with memory for the items that these operations add: while they are noted, no
-    /// item moves. That is memory for one item, or a place, for each of them that adds one, and
-    /// what is not used of it is not touched. Refused only as `AllocError`, where an allocation
-    /// failed.
+    /// No operations applied, with memory for the items that these operations add: no item moves
+    /// while they are applied. The memory is that of one item, or place, for each operation that
+    /// adds one, and unused parts of it are not touched. Fails only with `AllocError`, when an
+    /// allocation fails.
     pub fn with_capacity_for(alloc: A, ops: &[&Op<A>]) -> Result<Self, AllocError>
     where
         A: Clone,
@@ -107,11 +107,11 @@ impl<A: Allocator> ItemStates<A> {
         ItemStates::with_room(alloc, capacity_for(ops))
     }
 
-    /// Notes an operation of a new stamp whose needs are met by noted ones. `are_needs_met` tells
-    /// the latter; `laws::new_stamps` says of which facts that a caller has a stamp is known to be
-    /// new. In whatever order operations are noted, each takes at worst the logarithm of the number
-    /// of items. Refused only as `AllocError`, where a growth was refused; what was noted is then
-    /// dropped.
+    /// Applies an operation with a new stamp whose needs are met by applied ones. `are_needs_met`
+    /// checks the latter; `laws::new_stamps` states from which facts a caller can conclude that a
+    /// stamp is new. In whatever order operations are applied, each takes at worst the logarithm of
+    /// the number of items. Fails only with `AllocError`, when an allocation fails; the whole state
+    /// is then dropped.
     pub fn apply(self, op: &Op<A>) -> Result<Self, AllocError>
     where
         A: Clone,
@@ -121,8 +121,8 @@ impl<A: Allocator> ItemStates<A> {
         self.apply_near(NO_HINT, op)
     }
 
-    /// Notes an operation as `note` does, and looks for the cells of its item at an index first, as
-    /// `prefetch` told it.
+    /// Applies an operation as `apply` does, with the same error, and looks for the cells of its
+    /// item first at an index from `prefetch`.
     pub fn apply_near(self, near: usize, op: &Op<A>) -> Result<Self, AllocError>
     where
         A: Clone,
@@ -151,7 +151,8 @@ impl<A: Allocator> ItemStates<A> {
         })
     }
 
-    /// Whether an item is present: whether one of its tags is live. What is no item is not.
+    /// Whether an item is present, that is, whether one of its tags is live. False for a stamp that
+    /// is no item's.
     pub fn is_present(&self, item: Stamp) -> bool
         ensures { result ≡ is_present self.now item }
     {
@@ -161,9 +162,8 @@ impl<A: Allocator> ItemStates<A> {
         }
     }
 
-    /// The live tags of an item, each once, from the least stamp to the greatest: what a Remove of
-    /// it lists. What is no item has none. Refused only as `AllocError`, where an allocation
-    /// failed.
+    /// The live tags of an item, each once, in rising order: those that a Remove of the item lists.
+    /// A stamp that is no item's has none. Fails only with `AllocError`, when an allocation fails.
     pub fn live_tags(&self, item: Stamp) -> Result<Vec<Stamp, A>, AllocError>
     where
         A: Clone,
@@ -172,7 +172,7 @@ impl<A: Allocator> ItemStates<A> {
             ≡ is_listed (live_tags item self.now) tag) }
         ensures applied { AreApplied self.now }
     {
-        // for the proof: that the cells are those of the operations noted
+        // for the proof: that the cells are those of the applied operations
         let _ = &self.applied;
         match self.presence_near(NO_HINT, item) {
             Some(presence) => Ok(presence.live_tags(&self.alloc)?),
@@ -180,7 +180,7 @@ impl<A: Allocator> ItemStates<A> {
         }
     }
 
-    /// The last write of the title of a track or marker. `None` where the stamp names neither.
+    /// The last write of the title of a track or marker. `None` if the stamp names neither.
     pub fn title(&self, item: Stamp) -> Option<&Register<Title<A>>>
         ensures { option_map (λ r. r.now) result ≡ last_write title_written item self.now }
     {
@@ -193,7 +193,7 @@ impl<A: Allocator> ItemStates<A> {
         }
     }
 
-    /// The last write of the gain of a track or clip. `None` where the stamp names neither.
+    /// The last write of the gain of a track or clip. `None` if the stamp names neither.
     pub fn gain(&self, item: Stamp) -> Option<&Register<Gain>>
         ensures { option_map (λ r. r.now) result ≡ last_write gain_written item self.now }
     {
@@ -206,7 +206,7 @@ impl<A: Allocator> ItemStates<A> {
         }
     }
 
-    /// The last write of the mute of a track or clip. `None` where the stamp names neither.
+    /// The last write of the mute of a track or clip. `None` if the stamp names neither.
     pub fn mute(&self, item: Stamp) -> Option<&Register<bool>>
         ensures { option_map (λ r. r.now) result ≡ last_write mute_written item self.now }
     {
@@ -220,7 +220,7 @@ impl<A: Allocator> ItemStates<A> {
     }
 
     /// The last write of a track's place: its stamp is the track's current place, and its value the
-    /// place that this one was put after, none for the head. `None` where the stamp names no track.
+    /// place that this one was put after, none for the head. `None` if the stamp names no track.
     pub fn track_place(&self, track: Stamp) -> Option<&Register<Option<Stamp>>>
         ensures { option_map (λ r. r.now) result ≡ last_write track_place_written track self.now }
     {
@@ -230,8 +230,8 @@ impl<A: Allocator> ItemStates<A> {
         }
     }
 
-    /// The current place of a track: the stamp of the last AddTrack or MoveTrack that put it
-    /// anywhere. `None` where the stamp names no track.
+    /// The current place of a track: the stamp of the last AddTrack or MoveTrack that gave it a
+    /// place. `None` if the stamp names no track.
     pub fn current_place(&self, track: Stamp) -> Option<Stamp>
         ensures { result ≡ option_map (λ (w : Written _). w.writer)
             (last_write track_place_written track self.now) }
@@ -243,7 +243,7 @@ impl<A: Allocator> ItemStates<A> {
     }
 
     /// The last write of a clip's place: its track, and the frame of the session at which it
-    /// begins. `None` where the stamp names no clip.
+    /// begins. `None` if the stamp names no clip.
     pub fn clip_place(&self, clip: Stamp) -> Option<&Register<Placement>>
         ensures { option_map (λ r. r.now) result ≡ last_write clip_place_written clip self.now }
     {
@@ -253,8 +253,8 @@ impl<A: Allocator> ItemStates<A> {
         }
     }
 
-    /// The last write of a clip's trim: the first frame of its recording that it plays, and how
-    /// many frames, at least 1. `None` where the stamp names no clip.
+    /// The last write of a clip's trim: the first frame of its recording that it plays, and the
+    /// number of frames, at least 1. `None` if the stamp names no clip.
     pub fn trim(&self, clip: Stamp) -> Option<&Register<TrimRange>>
         ensures write { option_map (λ r. r.now) result ≡ last_write trim_written clip self.now }
         ensures positive { IfSome result (λ r. 1 ≤ r.now.value.len) }
@@ -265,8 +265,8 @@ impl<A: Allocator> ItemStates<A> {
         }
     }
 
-    /// The last write of a clip's fades, none longer than 1,048,576 frames. `None` where the stamp
-    /// names no clip.
+    /// The last write of a clip's fades, each at most 1,048,576 frames. `None` if the stamp names
+    /// no clip.
     pub fn fades(&self, clip: Stamp) -> Option<&Register<FadeLengths>>
         ensures write { option_map (λ r. r.now) result ≡ last_write fades_written clip self.now }
         ensures short { IfSome result (λ r. AreShort r.now.value) }
@@ -277,7 +277,7 @@ impl<A: Allocator> ItemStates<A> {
         }
     }
 
-    /// The recording that a clip plays, which its own AddClip alone writes. `None` where the stamp
+    /// The recording that a clip plays, which only its own AddClip writes. `None` if the stamp
     /// names no clip.
     pub fn source(&self, clip: Stamp) -> Option<Digest>
         ensures { option_map (λ source. record { writer = clip; value = source }) result
@@ -289,8 +289,8 @@ impl<A: Allocator> ItemStates<A> {
         }
     }
 
-    /// The last write of a marker's position, in frames of the session. `None` where the stamp
-    /// names no marker.
+    /// The last write of a marker's position, in frames of the session. `None` if the stamp names
+    /// no marker.
     pub fn position(&self, marker: Stamp) -> Option<&Register<u32>>
         ensures { option_map (λ r. r.now) result ≡ last_write position_written marker self.now }
     {
@@ -300,7 +300,7 @@ impl<A: Allocator> ItemStates<A> {
         }
     }
 
-    /// The last write of a marker's length, in frames. `None` where the stamp names no marker.
+    /// The last write of a marker's length, in frames. `None` if the stamp names no marker.
     pub fn marker_length(&self, marker: Stamp) -> Option<&Register<u32>>
         ensures { option_map (λ r. r.now) result ≡ last_write marker_length_written marker self.now
             }
@@ -311,39 +311,39 @@ impl<A: Allocator> ItemStates<A> {
         }
     }
 
-    /// The cells of a track, present or not: all its fields by one search. `None` where the stamp
+    /// The cells of a track, present or not: all its fields with one search. `None` if the stamp
     /// names no track.
     pub fn track_cells(&self, track: Stamp) -> Option<&TrackCells<A>>
         ensures { MatchOption result (is_need_met self.now (need_of Track track) ≡ false)
             (λ cells. HoldsTrack track self.now cells.now) }
     {
-        // for the proof: that the cells are those of the operations noted
+        // for the proof: that the cells are those of the applied operations
         let _ = &self.applied;
         self.tracks.get(track)
     }
 
-    /// The clips with their cells, present or not, in the order in which they were noted.
+    /// The clips with their cells, present or not, in the order in which they were applied.
     pub fn clip_cells(&self) -> &[(Stamp, ClipCells<A>)]
         ensures clips { keys_of result.now ≡ items_of Clip self.now }
         ensures each { AllByRecursion (λ e. HoldsClip e.0 self.now e.1) result.now }
     {
-        // for the proof: that the cells are those of the operations noted
+        // for the proof: that the cells are those of the applied operations
         let _ = &self.applied;
         self.clips.entries()
     }
 
-    /// The markers with their cells, present or not, in the order in which they were noted.
+    /// The markers with their cells, present or not, in the order in which they were applied.
     pub fn marker_cells(&self) -> &[(Stamp, MarkerCells<A>)]
         ensures markers { keys_of result.now ≡ items_of Marker self.now }
         ensures each { AllByRecursion (λ e. HoldsMarker e.0 self.now e.1) result.now }
     {
-        // for the proof: that the cells are those of the operations noted
+        // for the proof: that the cells are those of the applied operations
         let _ = &self.applied;
         self.markers.entries()
     }
 
-    /// The tracks by their stamps, and the markers in the order in which they were noted, present
-    /// or not, with their cells by value. All else is let go.
+    /// The tracks by their stamps, and the markers in the order in which they were applied, present
+    /// or not, with their cells by value. The rest is dropped.
     pub fn into_tracks_and_markers(
         self,
     ) -> (StampMap<TrackCells<A>, A>, Vec<(Stamp, MarkerCells<A>), A>)
@@ -359,8 +359,8 @@ impl<A: Allocator> ItemStates<A> {
         (tracks, markers.into_entries())
     }
 
-    /// The stamps of the tracks, present or not, from the least to the greatest. Refused only as
-    /// `AllocError`, where an allocation failed.
+    /// The stamps of the tracks, present or not, in rising order. Fails only with `AllocError`,
+    /// when an allocation fails.
     pub fn tracks(&self) -> Result<Vec<Stamp, A>, AllocError>
     where
         A: Clone,
@@ -369,8 +369,8 @@ impl<A: Allocator> ItemStates<A> {
         stamps_of(self.alloc.clone()?, self.tracks.entries())
     }
 
-    /// The stamps of the clips, present or not, from the least to the greatest. Refused only as
-    /// `AllocError`, where a growth was refused.
+    /// The stamps of the clips, present or not, in rising order. Fails only with `AllocError`, when
+    /// an allocation fails.
     pub fn clips(&self) -> Result<Vec<Stamp, A>, AllocError>
     where
         A: Clone,
@@ -379,8 +379,8 @@ impl<A: Allocator> ItemStates<A> {
         stamps_of(self.alloc.clone()?, self.clips.entries())
     }
 
-    /// The stamps of the markers, present or not, from the least to the greatest. Refused only as
-    /// `AllocError`, where an allocation failed.
+    /// The stamps of the markers, present or not, in rising order. Fails only with `AllocError`,
+    /// when an allocation fails.
     pub fn markers(&self) -> Result<Vec<Stamp, A>, AllocError>
     where
         A: Clone,

@@ -1,10 +1,10 @@
-//! The state of items: of the operations noted so far, what each field of each item holds, and
-//! which items are there.
+//! The state of items: from the operations applied so far, the value of each field of each item,
+//! and which items are present.
 //!
-//! An editor takes operations one by one, from several replicas and in any order in which each
-//! stands after those that it needs. `Items` notes each, and answers at any time what a session is
-//! made of: the last write of each field with the stamp of its writer, the live tags of each item,
-//! and the tracks, clips and markers by their stamps.
+//! An editor takes operations one by one, from several replicas, in any order in which each comes
+//! after those that it needs. `ItemStates` applies each of them. At any time it returns the parts
+//! of a session: the last write of each field with the stamp of its writer, the live tags of each
+//! item, and the tracks, clips and markers by their stamps.
 //!
 //! ```rust
 //! use session_state::ItemStates;
@@ -15,12 +15,14 @@
 //! fn keeps_the_last_title(rt: HostRuntime) -> Result<(), Fail> {
 //!     let item = Stamp::new(1, Replica(10), 1)?;
 //!     let title = Title::new(rt.alloc(), "News")?;
-//!     let items = ItemStates::new(rt.alloc())?.note(&Op::new(item, Body::AddMarker { at: 480, title })?)?;
-//!     // two replicas retitle it; the one of greater stamp arrives first
+//!     let items = ItemStates::new(rt.alloc())?
+//!         .apply(&Op::new(item, Body::AddMarker { at: 480, title })?)?;
+//!     // two replicas retitle it; the operation with the greater stamp arrives first
 //!     let (early, late) = (Title::new(rt.alloc(), "Early")?, Title::new(rt.alloc(), "Late")?);
 //!     let by_b = Stamp::new(2, Replica(11), 1)?;
-//!     let items = items.note(&Op::new(by_b, Body::Retitle { item, title: late })?)?;
-//!     let items = items.note(&Op::new(Stamp::new(2, Replica(10), 2)?, Body::Retitle { item, title: early })?)?;
+//!     let items = items.apply(&Op::new(by_b, Body::Retitle { item, title: late })?)?;
+//!     let by_a = Stamp::new(2, Replica(10), 2)?;
+//!     let items = items.apply(&Op::new(by_a, Body::Retitle { item, title: early })?)?;
 //!     let title = items.title(item).ok_or("an item with a title")?;
 //!     assert_eq!(rt; title.get().text(), "Late");
 //!     assert_eq!(rt; title.stamp(), by_b);
@@ -30,18 +32,18 @@
 //! }
 //! ```
 //!
-//! Whether an operation may be noted next is a condition that the caller shows: its stamp is new
-//! (`laws::new_stamps`), and `are_needs_met` says true. `items_of_ready` does so for a whole set
-//! that stands by rising stamp, in one pass.
+//! Whether an operation may be applied next is a condition that the caller proves: its stamp is new
+//! (`laws::new_stamps`), and `are_needs_met` returns true. `items_of_ready` does so for a whole set
+//! that is sorted by rising stamp, in one pass.
 //!
 //! A clip's place and a marker's position are frames of the session, and a trim is frames of a
-//! recording, its length at least 1. The one refusal is `AllocError`, where an allocation failed:
-//! of `note`, which then drops all that was noted, and of what hands out a list.
+//! recording, with a length of at least 1. The only error is `AllocError`, when an allocation
+//! fails: in `apply`, which then drops the whole state, and in calls that return a list.
 //!
-//! An item is found by its replica and number (base_stampmap): an operation costs a few looks at
+//! An item is found by its replica and number (base_stampmap). An operation costs a few look-ups of
 //! its item, and at worst the logarithm of the number of items, whatever came before it. Contracts
-//! see an `Items` as the list of the operations noted, and each answer is a definition of mt_op
-//! over that list; on which operations these are it depends, and on nothing else
+//! see an `ItemStates` as the list of the applied operations, and each result is a definition of
+//! mt_op over that list. It depends only on which operations these are, and not on their order
 //! (`laws::any_order`).
 #![tactic(auto)]
 

@@ -8,7 +8,7 @@ ghost use Rattle.mt_stamp.specs.Sorting.{sort_by};
 use mt_stamp::Stamp;
 use std::alloc::{AllocError, Allocator};
 
-// The stamps of entries, in their order.
+// The stamps of entries, in the same order.
 fn keys_of<C, A: Allocator>(alloc: A, entries: &[(Stamp, C)]) -> Result<Vec<Stamp, A>, AllocError>
     ensures ok { IfOk result (λ stamps. stamps.items ≡ keys_of entries.now) }
 {
@@ -19,7 +19,7 @@ fn keys_of<C, A: Allocator>(alloc: A, entries: &[(Stamp, C)]) -> Result<Vec<Stam
     Ok(stamps)
 }
 
-// The stamps of entries, from the least to the greatest.
+// The stamps of entries, in rising order.
 pub(crate) fn stamps_of<C, A: Allocator>(
     alloc: A,
     entries: &[(Stamp, C)],

@@ -15,7 +15,7 @@ use mt_cells::Register;
 use mt_op::{Body, Op};
 use std::alloc::{AllocError, Allocator};
 
-// The cells of the marker that an operation adds, where it adds one.
+// The cells of the marker that an operation adds, if it adds one.
 fn added<A: Allocator + Clone>(op: &Op<A>) -> Result<Option<MarkerCells<A>>, AllocError>
     ensures ok { IfOk result (λ cells. MatchOption cells (adds_marker op.now.act ≡ false)
         (Makes HoldsMarker op.now)) }
@@ -37,7 +37,7 @@ fn added<A: Allocator + Clone>(op: &Op<A>) -> Result<Option<MarkerCells<A>>, All
     }))
 }
 
-// Notes an operation on a marker.
+// Applies an operation to a marker.
 fn change<A: Allocator + Clone>(
     alloc: &A,
     cells: &mut MarkerCells<A>,
@@ -52,7 +52,7 @@ fn change<A: Allocator + Clone>(
     mark(alloc, &mut cells.presence, op)
 }
 
-// Notes an operation among the markers.
+// Applies an operation to the markers.
 pub(crate) fn apply<A: Allocator + Clone>(
     alloc: &A,
     markers: &mut StampMap<MarkerCells<A>, A>,

@@ -14,9 +14,9 @@ use mt_stamp::Stamp;
 use std::alloc::{AllocError, Allocator};
 use std::marker::Model;
 
-/// The tags of an item that was added, and those that were removed. Its own stamp is its first tag;
-/// it takes memory from the first other tag or removal on: a block for the marks, and what they
-/// hold.
+/// The tags of an item that was added, and the removed ones. Its own stamp is its first tag. It
+/// allocates memory from the first other tag or removal on: a block for the two sets, and their
+/// contents.
 #[derive(Drop)]
 pub struct ItemPresence<A: Allocator> {
     own: Stamp,
@@ -36,14 +36,14 @@ impl<A: Allocator> Model for ItemPresence<A> {
 }
 
 impl<A: Allocator> ItemPresence<A> {
-    // The marks of an item of this stamp that was added, and no more.
+    // The presence of an item of this stamp that was added, with no other tag and no removal.
     pub(crate) fn new(own: Stamp) -> Self
         ensures { result ≡ record { tags = set.insert set.empty own; removed = set.empty } }
     {
         ItemPresence { own, applied: None }
     }
 
-    // Whether a stamp tags the item, removed or not.
+    // Whether a stamp tags the item, whether removed or not.
     pub(crate) fn has_tag(&self, stamp: Stamp) -> bool
         ensures { result ≡ set.contains self.now.tags stamp }
     {
@@ -53,7 +53,7 @@ impl<A: Allocator> ItemPresence<A> {
         }
     }
 
-    /// Whether the item is there: whether a tag is live.
+    /// Whether the item is present, that is, whether a tag is live.
     pub fn is_present(&self) -> bool
         ensures { IsTrue result ↔ IsPresent self.now }
     {
@@ -63,7 +63,7 @@ impl<A: Allocator> ItemPresence<A> {
         }
     }
 
-    // The live tags, each once, from the least stamp to the greatest.
+    // The live tags, each once, in rising order.
     pub(crate) fn live_tags(&self, alloc: &A) -> Result<Vec<Stamp, A>, AllocError>
     where
         A: Clone,
@@ -79,7 +79,7 @@ impl<A: Allocator> ItemPresence<A> {
         Ok(presence.live_tags()?)
     }
 
-    // Tags the item with a stamp.
+    // Adds a stamp to the tags of the item.
     pub(crate) fn add_tag(&mut self, alloc: &A, stamp: Stamp) -> Result<(), AllocError>
     where
         A: Clone,
@@ -106,7 +106,7 @@ impl<A: Allocator> ItemPresence<A> {
     }
 }
 
-// The marks of an item: its own stamp is its one tag where none are noted.
+// The presence of an item: its own stamp is its only tag if nothing else was applied.
 fn marks_of<A: Allocator + Clone>(
     alloc: &A,
     own: Stamp,

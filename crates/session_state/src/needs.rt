@@ -1,5 +1,5 @@
-//! Which needs noted operations meet. What looks near an index looks there first, and then wherever
-//! the item may stand.
+//! Whether applied operations meet needs. A call with an index looks there first, and then wherever
+//! the item may be.
 
 ghost use Rattle.std.specs.Prelude.{◌≡◌, MatchOption, Some, slice_get};
 ghost use Rattle.mt_op.specs.declared.need.Role.TheVariants.{Track, Place, Clip, Marker, Mixable};
@@ -56,7 +56,7 @@ impl<A: Allocator> ItemStates<A> {
         self.markers.contains_near(near, stamp)
     }
 
-    // Whether a stamp names an item that sounds.
+    // Whether a stamp names a mixable item: a track or a clip.
     fn is_mixable(&self, near: usize, stamp: Stamp) -> bool
         ensures { result ≡ is_need_met self.now (need_of Mixable stamp) }
     {
@@ -94,14 +94,15 @@ impl<A: Allocator> ItemStates<A> {
         }
     }
 
-    /// Whether a noted operation meets a need: whether it has this stamp and fits in this role.
+    /// Whether an applied operation meets a need: whether one has this stamp and fits in this role.
     pub fn meets(&self, need: &Need) -> bool
         ensures { result ≡ is_need_met self.now need.now }
     {
         self.meets_near(NO_HINT, need)
     }
 
-    // The same, where the item of the need may stand at an index.
+    // Whether an applied operation meets a need, with an index at which the item of the need may
+    // be.
     fn meets_near(&self, near: usize, need: &Need) -> bool
         ensures { result ≡ is_need_met self.now need.now }
     {
@@ -118,7 +119,7 @@ impl<A: Allocator> ItemStates<A> {
         }
     }
 
-    // Whether the need of an operation at place `i` is met.
+    // Whether the need of an operation at index `i` is met.
     fn is_met_at(&self, near: usize, op: &Op<A>, i: usize) -> bool
         ensures { (need : NeedOf) → slice_get (needs op.now) i ≡ Some need → result
             ≡ is_need_met self.now need }
@@ -129,7 +130,7 @@ impl<A: Allocator> ItemStates<A> {
         }
     }
 
-    /// Whether noted operations meet each need of an operation.
+    /// Whether applied operations meet each need of an operation.
     pub fn are_needs_met(&self, op: &Op<A>) -> bool
         ensures met { result ≡ are_needs_met self.now op.now }
         ensures applied { AreApplied self.now }
@@ -137,13 +138,13 @@ impl<A: Allocator> ItemStates<A> {
         self.are_needs_met_near(NO_HINT, op)
     }
 
-    /// The same, where the cells of the operation's item are looked for at an index first, as
-    /// `prefetch` told it.
+    /// Whether applied operations meet each need of an operation, looking for the cells of its item
+    /// first at an index from `prefetch`.
     pub fn are_needs_met_near(&self, near: usize, op: &Op<A>) -> bool
         ensures met { result ≡ are_needs_met self.now op.now }
         ensures applied { AreApplied self.now }
     {
-        // for the proof: that the cells are those of the operations noted
+        // for the proof: that the cells are those of the applied operations
         let _ = &self.applied;
         for i in 0..op.need_count() {
             if !self.is_met_at(near, op, i) {

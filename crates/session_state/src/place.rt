@@ -10,7 +10,7 @@ use base_stampmap::StampMap;
 use mt_op::{Op, Role};
 use std::alloc::{AllocError, Allocator};
 
-// Notes the place that an operation gives, where it gives one.
+// Applies the place that an operation gives, if it gives one.
 pub(crate) fn apply<A: Allocator + Clone>(
     places: &mut StampMap<(), A>,
     op: &Op<A>,

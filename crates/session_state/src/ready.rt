@@ -1,4 +1,4 @@
-//! The items that the ready operations of a set leave.
+//! The items after the ready operations of a set.
 
 ghost use Rattle.std.specs.Prelude.{◌≡◌, [], IfOk, IsTrue, map, reverse};
 ghost use Rattle.std.specs.List.{AllByRecursion};
@@ -13,7 +13,7 @@ use crate::items::ItemStates;
 use mt_op::Op;
 use std::alloc::{AllocError, Allocator};
 
-// Notes each of these operations whose needs the noted ones meet.
+// Applies each of these operations whose needs are met by the applied ones.
 fn pass<A: Allocator + Clone>(alloc: A, ops: &[&Op<A>]) -> Result<ItemStates<A>, AllocError>
     requires rising { RisesStrictly op_cmp (map (λ o. o.now) ops.now) }
     ensures ok { IfOk result (λ items. items ≡ one_pass [] (map (λ o. o.now) ops.now)) }
@@ -36,9 +36,9 @@ fn pass<A: Allocator + Clone>(alloc: A, ops: &[&Op<A>]) -> Result<ItemStates<A>,
     Ok(items)
 }
 
-/// The items that the ready ones of these operations leave, which rise by stamp, each stamp once.
-/// The ready ones are noted, from the least stamp to the greatest; those that are held change
-/// nothing. n operations cost n log n. Refused only as `AllocError`, where an allocation failed.
+/// The items after the ready ones of these operations, which are sorted by rising stamp, each stamp
+/// once. The ready ones are applied in this order; the held ones change nothing. n operations cost
+/// n log n. Fails only with `AllocError`, when an allocation fails.
 pub fn items_of_ready<A: Allocator + Clone>(
     alloc: A,
     ops: &[&Op<A>],

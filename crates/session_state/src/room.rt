@@ -1,9 +1,9 @@
-//! How many items operations add.
+//! The number of items that operations add.
 
 use mt_op::{Body, Op};
 use std::alloc::Allocator;
 
-/// How many tracks, clips, markers and places there is to be room for.
+/// The numbers of tracks, clips, markers and places to reserve memory for.
 #[derive(Clone, Copy)]
 pub(crate) struct Capacity {
     pub tracks: usize,
@@ -13,7 +13,7 @@ pub(crate) struct Capacity {
 }
 
 impl Capacity {
-    /// For none.
+    /// The capacity for nothing.
     pub(crate) const NONE: Capacity = Capacity {
         tracks: 0,
         clips: 0,
@@ -22,8 +22,8 @@ impl Capacity {
     };
 }
 
-/// For what these operations add, were all of them noted. It says how much memory is taken at
-/// first, and no more.
+/// The capacity for all items that these operations add, if all are applied. It only determines how
+/// much memory is allocated at first.
 pub(crate) fn capacity_for<A: Allocator>(ops: &[&Op<A>]) -> Capacity {
     let mut room = Capacity::NONE;
     for op in ops {

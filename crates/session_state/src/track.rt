@@ -15,7 +15,7 @@ use mt_cells::Register;
 use mt_op::{Body, Gain, Op};
 use std::alloc::{AllocError, Allocator};
 
-// The cells of the track that an operation adds, where it adds one.
+// The cells of the track that an operation adds, if it adds one.
 fn added<A: Allocator + Clone>(op: &Op<A>) -> Result<Option<TrackCells<A>>, AllocError>
     ensures ok { IfOk result (λ cells. MatchOption cells (adds_track op.now.act ≡ false)
         (Makes HoldsTrack op.now)) }
@@ -38,7 +38,7 @@ fn added<A: Allocator + Clone>(op: &Op<A>) -> Result<Option<TrackCells<A>>, Allo
     }))
 }
 
-// Notes an operation on a track.
+// Applies an operation to a track.
 fn change<A: Allocator + Clone>(
     alloc: &A,
     cells: &mut TrackCells<A>,
@@ -54,7 +54,7 @@ fn change<A: Allocator + Clone>(
     mark(alloc, &mut cells.presence, op)
 }
 
-// Notes an operation among the tracks.
+// Applies an operation to the tracks.
 pub(crate) fn apply<A: Allocator + Clone>(
     alloc: &A,
     tracks: &mut StampMap<TrackCells<A>, A>,

@@ -1,5 +1,5 @@
--- A session before the last of the noted operations, and where the item of this operation stood in
--- it.
+-- The session before the last of the applied operations, and the place of the item of this
+-- operation in it.
 use Rattle.std.specs.Prelude.{◌≡◌, ℕ, Bool, true, false, ◌&&◌, ◌==◌, List, ◌∷◌, map, filter, not}
 use Rattle.std.specs.Prelude.{slice_get, Option, option_map, Some, None, if◌then◌else◌, ◌⊎◌}
 use Rattle.std.specs.List.{sum_by, list_any}
@@ -23,18 +23,18 @@ use Rattle.session_update.specs.declared.before.Located.{Located}
 use Rattle.session_update.specs.declared.clip.PlacedClip.{PlacedClip}
 use Rattle.session_update.specs.Updating.{item_of_op, marker_entry}
 
--- These operations are those before and one more, which is about this item.
+-- These operations are the earlier ones and one more, which is about this item.
 pub record IsOneMore (ops before : List Op) (item : Stamp) : Type 0 where
   pub last : Op
   pub are : ops ≡ last ∷ before
   pub applied : AreApplied ops
   pub about : item ≡ item_of_op last
 
--- where the session shows the marker of a stamp, in frames
+-- the position of the marker of a stamp in the session, in frames
 abbrev pub marker_position : List Op → Stamp → Option ℕ
 marker_position ops item = option_map (λ (m : Marker). m.at) (marker_entry ops item)
 
--- The markers are those before the last of these operations, and that of its item stood at this
+-- The markers are those before the last of these operations, and the marker of its item was at this
 -- position.
 pub record MarkersLocated (ops : List Op) (item : Stamp) (located : Option ℕ)
     (markers : List Marker) : Type 0 where
@@ -43,13 +43,12 @@ pub record MarkersLocated (ops : List Op) (item : Stamp) (located : Option ℕ)
   pub are : markers ≡ markers_in before
   pub located_at : located ≡ marker_position before item
 
--- the clip of a stamp with its track, which may be absent
+-- the present clip of a stamp with its track, which may be absent
 abbrev pub placed_clip : List Op → Stamp → Option PlacedClip
 placed_clip ops item = option_map (λ f. record { track = f.track; clip = f.clip })
     (clip_read ops item)
 
--- The tracks are those before the last of these operations, and the clip that is its item stood
--- there.
+-- The tracks are those before the last of these operations, and the clip of its item was there.
 pub record ClipsLocated (ops : List Op) (item : Stamp) (located : Option PlacedClip)
     (tracks : List Track) : Type 0 where
   pub before : List Op
@@ -61,7 +60,7 @@ pub record ClipsLocated (ops : List Op) (item : Stamp) (located : Option PlacedC
 abbrev pub is_known : List Op → Stamp → Bool
 is_known ops item = is_need_met ops (need_of ItemRole item)
 
--- The tracks are those before the last of these operations, and it is known whether its item was
+-- The tracks are those before the last of these operations, with the fact whether its item was
 -- added before it.
 pub record TracksLocated (ops : List Op) (item : Stamp) (known : Bool) (tracks : List Track) : Type
     0 where
@@ -70,15 +69,14 @@ pub record TracksLocated (ops : List Op) (item : Stamp) (known : Bool) (tracks :
   pub are : tracks ≡ tracks_in before
   pub known_is : known ≡ is_known before item
 
--- ---- all that an operation changes
+-- ---- all changes of an operation
 
--- The list has the places that these operations gave: whatever is counted of each place adds up to
--- the same.
+-- The list has the places that these operations gave: any sum over the places is the same for both.
 abbrev pub ArePlacesOf : List Placed → List Op → Type 0
 ArePlacesOf list ops = (f : TreePlace → ℕ) → sum_by f (tree_of list) ≡ sum_by f (places_in ops)
 
--- the place that an act under a stamp gives a track, if it gives one, with what it is put after and
--- the track
+-- the place that an act under a stamp gives a track, if it gives one, with the place that it is put
+-- after and the track
 abbrev pub placed_of : Stamp → Body → Option Placed
 placed_of stamp (AddTrack after title) = Some (record
     { place = stamp; after = after; track = stamp })
@@ -86,18 +84,18 @@ placed_of stamp (MoveTrack track after) = Some (record
     { place = stamp; after = after; track = track })
 placed_of stamp act = None
 
--- a list of places with one more put in, if there is one
+-- a list of places with one more inserted, if there is one
 abbrev pub with_placed : Option Placed → List Placed → List Placed
 with_placed None list = list
 with_placed (Some placed) list = inserted list placed
 
--- where an item stands in a session: the position of a marker, a clip with its track, and whether
--- it was added at all
+-- the place of an item in a session: the position of a marker, a clip with its track, and whether
+-- an item of this stamp was added at all
 abbrev pub located_in : List Op → Stamp → Located
 located_in ops item = record { marker = marker_position ops item; clip = placed_clip ops item; known
     = is_known ops item }
 
--- The session is that before the last of these operations, and its item stood there.
+-- The session is that before the last of these operations, and its item was there.
 pub record SessionLocated (ops : List Op) (item : Stamp) (located : Located) (content : Session) :
     Type 0 where
   pub before : List Op
@@ -106,25 +104,25 @@ pub record SessionLocated (ops : List Op) (item : Stamp) (located : Located) (co
   pub markers_are : content.markers ≡ markers_in before
   pub located_is : located ≡ located_in before item
 
--- ---- what a refusal may leave
+-- ---- the session after a failed allocation
 
--- the markers but the one of a stamp that stood at this position
+-- the markers except the one of a stamp at this position
 abbrev pub without_located : Option ℕ → Stamp → List Marker → List Marker
 without_located None item markers = markers
 without_located (Some at) item markers = filter (λ m. not (is_marker_at at item m)) markers
 
--- a track without a clip that stood on it
+-- a track without a clip that was on it
 abbrev pub clip_off : PlacedClip → Track → Track
 clip_off found t = if stamp_eq found.track t.track then without_clip found.clip.at found.clip.place
     t else t
 
--- the tracks with a clip taken off where it stood
+-- the tracks without a clip that was found before
 abbrev pub tracks_without : Option PlacedClip → List Track → List Track
 tracks_without None tracks = tracks
 tracks_without (Some found) tracks = map (clip_off found) tracks
 
--- A session is as it was, or lacks what stood of an item: the marker, the clip, or the track. All
--- else stays.
+-- A session is unchanged, or lacks the old entry of an item: the marker, the clip, or the track.
+-- The rest is unchanged.
 abbrev pub LacksAtMost : Stamp → Located → Session → Session → Type 0
 LacksAtMost item located old new =
     (new ≡ old)
@@ -132,45 +130,45 @@ LacksAtMost item located old new =
     ⊎ (new ≡ record old { tracks = tracks_without located.clip old.tracks })
     ⊎ (new ≡ record old { tracks = without (λ (t : Track). t.track) item old.tracks })
 
--- ---- working definitions, of which no public function speaks
+-- ---- working definitions, which no public contract uses
 
--- a clip, where it is on this track
+-- a clip, if it is on this track
 abbrev pub if_there : Stamp → Option PlacedClip → Option Clip
 if_there track None = None
 if_there track (Some found) = if stamp_eq found.track track then Some found.clip else None
 
--- a track with a clip that comes to it
+-- a track with a clip added, if the clip is on it
 abbrev pub clip_to : PlacedClip → Track → Track
 clip_to found t = if stamp_eq found.track t.track then with_clip found.clip t else t
 
--- whether a clip is where one stood: on the same track, at the same position, where the same
--- operation put it
+-- whether a clip is where one was found before: on the same track, at the same position, with its
+-- place from the same operation
 abbrev pub is_where : Option PlacedClip → PlacedClip → Bool
 is_where None found = false
 is_where (Some was) found = stamp_eq was.track found.track && (was.clip.at == found.clip.at)
     && stamp_eq was.clip.place found.clip.place
 
--- Its track, where it is one of these, has a clip where it is.
+-- If the clip's track is one of these, it has a clip with the same position and place.
 abbrev pub IsThere : PlacedClip → List Track → Type 0
 IsThere found tracks = (k : ℕ) (t : Track) → slice_get tracks k ≡ Some t
     → stamp_eq found.track t.track ≡ true → list_any (is_clip_at found.clip.at found.clip.place)
     t.clips ≡ true
 
--- Its track, where it is one of these, has no clip that the same operation put where it is.
+-- If the clip's track is one of these, it has no clip with its place from the same operation.
 abbrev pub IsNew : PlacedClip → List Track → Type 0
 IsNew found tracks = (k : ℕ) (t : Track) → slice_get tracks k ≡ Some t
     → stamp_eq found.track t.track ≡ true → list_any (is_placed_by found.clip.place) t.clips ≡ false
 
--- the tracks with a clip put where it is
+-- the tracks with a clip inserted into its track
 abbrev pub tracks_with : Option PlacedClip → List Track → List Track
 tracks_with None tracks = tracks
 tracks_with (Some found) tracks = map (clip_to found) tracks
 
--- where the place of a track stands among the places of a list; the list's length where it is not
+-- the index of the place of a track among the places of a list; the list's length if it is not
 -- there
 abbrev pub place_index : List Placed → List Op → Stamp → ℕ
 place_index list ops track = index_in list (track_place_in ops track)
 
--- tracks by where their places stand in a list
+-- tracks by the indexes of their places in a list
 abbrev pub index_order : List Placed → List Op → Track → Track → Ordering
 index_order list ops a b = nat_cmp (place_index list ops a.track) (place_index list ops b.track)

@@ -1,4 +1,4 @@
--- One operation more, worked out. The operations stand with the last one first.
+-- Worked examples of one more operation. The lists of operations have the last one first.
 use Rattle.std.specs.Prelude.{◌≡◌, ℕ, List, [], ◌∷◌, None, Some, map, refl, codes}
 use Rattle.mt_op.specs.OpValue.{MoveClip, AddMarker, MoveMarker, Op}
 use Rattle.mt_sessionview.specs.SessionValue.{Clip, Track, Marker}
@@ -32,7 +32,7 @@ before = refl
 pub moved_behind : updated_by (moved_to 5 11 2 1200) two ≡ weather_at 960 ∷ news_at 1200 ∷ []
 moved_behind = refl
 
--- the greater stamp has written last, though it was noted first
+-- the write with the greater stamp is the last write, though it was applied first
 pub moved_before : updated_by (moved_to 4 10 2 70) (moved_to 5 11 2 1200 ∷ two) ≡ weather_at 960
     ∷ news_at 1200 ∷ []
 moved_before = refl
@@ -62,7 +62,7 @@ clips ts = map (λ (t : Track). t.clips) ts
 abbrev to_q : Op
 to_q = record { stamp = by 5 11 2; act = MoveClip (by 2 11 1) (by 2 10 2) 70 }
 
--- a clip that moves leaves one track and comes to another
+-- a clip that moves leaves one track and joins another
 pub moved_clip : clips (all_by to_q p_q) ≡ [] ∷ (seen (by 5 11 2) 70 ∷ []) ∷ []
 moved_clip = refl
 
@@ -74,7 +74,7 @@ pub its_clips : clips (all_by (moves 4 10 4 (by 1 10 1) (Some (by 2 10 2))) p_q)
     ∷ (seen (by 2 11 1) 5 ∷ []) ∷ []
 its_clips = refl
 
--- the place that the track had before stays among the places
+-- the place that the track had before is kept among the places
 pub three_places : places_in_order (moves 4 10 4 (by 1 10 1) (Some (by 2 10 2)) ∷ p_q) ≡ by 1 10 1
     ∷ by 2 10 2 ∷ by 4 10 4 ∷ []
 three_places = refl

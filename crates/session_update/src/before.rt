@@ -1,14 +1,14 @@
-//! Where an item stood before an operation about it.
+//! The place of an item before an operation about it.
 
 use crate::clip::PlacedClip;
 
-/// Where an item stands in a session before an operation about it is noted (`stood`).
+/// The place of an item in a session before an operation about it is applied (`located`).
 #[derive(Clone, Copy, Debug)]
 pub struct Located {
     /// The position, in frames, of the marker of this stamp that the session shows.
     pub marker: Option<u32>,
-    /// The clip of this stamp that is present, with its track.
+    /// The present clip of this stamp, with its track.
     pub clip: Option<PlacedClip>,
-    /// Whether an item of this stamp was added, present or not.
+    /// Whether an item of this stamp was added, whether present or not.
     pub known: bool,
 }

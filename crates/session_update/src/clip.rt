@@ -1,4 +1,4 @@
-//! The clips of a session, mended by one operation more.
+//! The clips of a session, updated by one more operation.
 
 ghost use Rattle.std.specs.Prelude.{◌≡◌, false, map, IfOk, IfSome, OnOk, OnErr};
 ghost use Rattle.mt_stamp.specs.Sorting.{DifferBy};
@@ -19,7 +19,7 @@ use mt_stamp::Stamp;
 use session_state::ItemStates;
 use std::alloc::{AllocError, Allocator};
 
-/// A clip, and the track that it is on.
+/// A clip with its track.
 #[derive(Clone, Copy, Debug)]
 pub struct PlacedClip {
     /// The stamp of the track, which may be absent.
@@ -28,7 +28,7 @@ pub struct PlacedClip {
     pub clip: ClipView,
 }
 
-// The fades of a clip; none where no clip of this stamp was added.
+// The fades of a clip; none if no clip of this stamp was added.
 fn fades_of<A: Allocator>(items: &ItemStates<A>, item: Stamp) -> FadeLengths
     ensures value { result ≡ fades_of items.now item }
     ensures short { AreShort result }
@@ -42,8 +42,8 @@ fn fades_of<A: Allocator>(items: &ItemStates<A>, item: Stamp) -> FadeLengths
     }
 }
 
-/// The clip of a stamp, where it is present, with its track, which need not be; `None` where no
-/// clip of this stamp is. Takes the logarithm of the number of items, and no memory.
+/// The present clip of a stamp with its track, which may be absent; `None` if no clip of this stamp
+/// is present. Takes time log n for n items, and allocates no memory.
 pub fn placed_clip<A: Allocator>(items: &ItemStates<A>, item: Stamp) -> Option<PlacedClip>
     ensures { result ≡ placed_clip items.now item }
 {
@@ -79,7 +79,7 @@ pub fn placed_clip<A: Allocator>(items: &ItemStates<A>, item: Stamp) -> Option<P
     })
 }
 
-// Takes a clip off the track on which it stood, where that is shown.
+// Removes a clip from its track, if that is shown.
 fn take_off<A: Allocator>(session: &mut Session<A>, found: PlacedClip)
     requires once { DifferBy (λ (t : Track). t.track) session.old.tracks }
     ensures { session.new ≡ record session.old { tracks = map (clip_off found) session.old.tracks }
@@ -94,7 +94,7 @@ fn take_off<A: Allocator>(session: &mut Session<A>, found: PlacedClip)
     }
 }
 
-// The same of what stood, if anything did.
+// Removes the clip found before from its track, if one was found and its track is shown.
 fn take_located<A: Allocator>(session: &mut Session<A>, located: Option<PlacedClip>)
     requires once { DifferBy (λ (t : Track). t.track) session.old.tracks }
     ensures { session.new ≡ record session.old { tracks = tracks_without located session.old.tracks
@@ -105,7 +105,7 @@ fn take_located<A: Allocator>(session: &mut Session<A>, located: Option<PlacedCl
     }
 }
 
-// Puts a clip on its track, where that is shown.
+// Inserts a clip into its track, if that is shown.
 fn put_on<A: Allocator>(session: &mut Session<A>, found: PlacedClip) -> Result<(), AllocError>
     requires once { DifferBy (λ (t : Track). t.track) session.old.tracks }
     requires new { IsNew found session.old.tracks }
@@ -119,8 +119,8 @@ fn put_on<A: Allocator>(session: &mut Session<A>, found: PlacedClip) -> Result<(
     }
 }
 
-// Whether a clip is shown where it stood: on the same track, at the same position, where the same
-// operation put it.
+// Whether a clip is where one was found before: on the same track, at the same position, with its
+// place from the same operation.
 fn stands_there(located: &Option<PlacedClip>, found: &PlacedClip) -> bool
     ensures { result ≡ is_where located.now found.now }
 {
@@ -134,7 +134,7 @@ fn stands_there(located: &Option<PlacedClip>, found: &PlacedClip) -> bool
     }
 }
 
-// Puts a clip in the place of the one that stands where it does, where its track is shown.
+// Replaces the clip with the same track, position and place by this one, if the track is shown.
 fn set_on<A: Allocator>(session: &mut Session<A>, found: PlacedClip)
     requires once { DifferBy (λ (t : Track). t.track) session.old.tracks }
     requires there { IsThere found session.old.tracks }
@@ -147,8 +147,8 @@ fn set_on<A: Allocator>(session: &mut Session<A>, found: PlacedClip)
     }
 }
 
-// Puts a clip in: in the place of the one that stood, where it stays there, and else in its new
-// place, after that one was taken off.
+// Puts a clip into the session: if its place is unchanged, it replaces the clip found before;
+// otherwise that one is removed and this one inserted in its new place.
 fn put_in<A: Allocator>(
     session: &mut Session<A>,
     located: Option<PlacedClip>,
@@ -170,14 +170,13 @@ fn put_in<A: Allocator>(
     put_on(session, found)
 }
 
-/// Mends the clips of a session after one operation more was noted, whose item is no track: takes
-/// the clip that is its item off the track on which it stood before (`placed_clip` of the
-/// operations before), where that track is shown, and puts it on the one on which it is now, where
-/// this is shown; where it stays at its position on its track, put there by the same operation, it
-/// is rewritten in its place: nothing moves, and no memory is taken. Looks at one track after
-/// another, and takes as many comparisons as the logarithm of the number of clips and items; what
-/// follows the clip moves else. Refused only as `AllocError`, where an allocation failed: the
-/// session then lacks the clip, if it stood there, and is else as it was.
+/// Updates the clips of a session after one more operation was applied, whose item is no track:
+/// removes the item's clip from its old track (`placed_clip` of the operations before), and inserts
+/// it into its new one, each if that track is shown. A clip with the same track, position and place
+/// operation is rewritten where it is: nothing moves, and no memory is allocated. The search is
+/// linear in the tracks, and takes log n comparisons for n clips and items; otherwise the later
+/// clips move. Fails only with `AllocError`, when an allocation fails: the session then lacks the
+/// clip, if it was there, and is otherwise unchanged.
 pub fn update_clips<A: Allocator>(
     session: &mut Session<A>,
     located: Option<PlacedClip>,

@@ -1,49 +1,48 @@
-//! What one operation more changes in a session: the laws by which an editor keeps its session,
-//! entry by entry, instead of making it anew, and the calls that do so.
+//! The changes that one more operation makes in a session: the laws by which an editor updates its
+//! session entry by entry, instead of making it from scratch, and the calls that do so.
 //!
-//! An operation adds an item or names one, its *subject*, whatever its body. Where it is noted
-//! after others, the session that they show changes at this one item: among the markers, among the
-//! clips of each track and among the tracks, the entry of the subject is taken out, and the one
-//! that it has now, if any, is put in its place in order. All other entries stay what and where
-//! they are.
+//! Every operation adds or names one item, its *subject*. When it is applied after others, their
+//! session changes only at this item: among the markers, among the clips of each track and among
+//! the tracks, the old entry of the subject is removed, and its new entry, if any, is inserted in
+//! order. All other entries keep their values and their order.
 //!
 //! ```text
 //! markers before           480 "News", 1.a.1    960 "Weather", 2.a.2
-//! noted, 5.b.1             MoveMarker 1.a.1 to 1200
+//! applied, 5.b.1           MoveMarker 1.a.1 to 1200
 //! the entry of 1.a.1       before: at 480       now: at 1200
-//! taken out and put in     960 "Weather", 2.a.2    1200 "News", 1.a.1
+//! removed and inserted     960 "Weather", 2.a.2    1200 "News", 1.a.1
 //! ```
 //!
-//! Had it been a Remove of all tags of 1.a.1, the subject would have no entry now, and nothing
-//! would be put in. Had another replica moved the marker with a greater stamp before, the entry now
-//! would be the entry before, put back where it was.
+//! If it were a Remove of all tags of 1.a.1, the subject would have no new entry, and nothing would
+//! be inserted. If another replica had moved the marker before with a greater stamp, the new entry
+//! would equal the old one, and be inserted where that one was.
 //!
-//! - [`laws::updated_markers`], [`laws::updated_clips`] and [`laws::updated_tracks`] say this of
+//! - [`laws::updated_markers`], [`laws::updated_clips`] and [`laws::updated_tracks`] state this of
 //!   the three lists, and [`laws::shown_entries`] what an entry is. A clip that moves leaves one
-//!   track and comes to another. A track that returns brings its clips.
-//! - [`laws::found_markers`] and [`laws::found_clips`] say how the entry to take out is found: by
-//!   its position, and by its stamp or that of its place, which is how the lists are in order.
-//!   [`laws::entries_once`] says that it is taken out at its index.
-//! - [`laws::order_by_index`] tells the order of tracks by where their places stand among all
-//!   places in order, which [`laws::updated_places`] keeps, and [`laws::places_stay`] that no place
-//!   that is added moves another.
-//! - [`laws::kinds_apart`] and [`laws::other_tracks`] say what need not be looked at. A marker's
-//!   operation leaves all tracks, and one of a clip leaves all but the two tracks that it was and
-//!   is on.
-//! - [`laws::applied_session`] says that all this is of the session of the set.
+//!   track and joins another. A track that is restored brings its clips.
+//! - [`laws::found_markers`] and [`laws::found_clips`] state how the entry to remove is found: by
+//!   its position, and by its stamp or that of its place, which are the sort keys of the lists.
+//!   [`laws::entries_once`] states that it is removed at its index.
+//! - [`laws::order_by_index`] gives the order of tracks by the indexes of their places among all
+//!   places in order. [`laws::updated_places`] states how that list is updated, and
+//!   [`laws::places_stay`] that adding a place moves no other.
+//! - [`laws::kinds_apart`] and [`laws::other_tracks`] state what stays the same and need not be
+//!   read. An operation about a marker leaves all tracks as they are, and one about a clip leaves
+//!   all tracks except the one that the clip was on and the one that it is on.
+//! - [`laws::applied_session`] states that all this holds for the session of the set.
 //!
-//! Operations are noted after what they need, in any order else.
+//! Operations are applied after those that they need, and otherwise in any order.
 //!
-//! The calls that mend a session do what the laws say. Before an operation is noted, [`stood`]
-//! tells where its item (`Op::item`) stands, and [`add_place`] puts the place that it gives a
-//! track, if it gives one, into the list of all places; after it, [`mend`] takes the item's entry
-//! out where it stood, and puts in the one that is shown now; a marker or a clip that stays where
-//! it stood is rewritten there, and nothing moves. The session is then the one that all noted
-//! operations show:
+//! The calls that update a session do what the laws state. Before an operation is applied,
+//! [`located`] returns where its item (`Op::item`) is, and [`add_place`] inserts the place that it
+//! gives a track, if it gives one, into the list of all places. After it is applied, [`update`]
+//! removes the old entry of the item and inserts the new one. A marker or a clip whose place is
+//! unchanged is rewritten there, and nothing moves. The session is then the one of all applied
+//! operations:
 //!
 //! ```rust
 //! use session_state::ItemStates;
-//! use session_update::{add_place, mend, stood};
+//! use session_update::{add_place, located, update};
 //! use mt_op::{Body, Op, Title};
 //! use mt_opcodec::Log;
 //! use mt_sessionview::from_scratch;
@@ -63,12 +62,12 @@
 //!         Op::new(Stamp::new(5, Replica(11), 1)?, Body::MoveMarker { marker: news, at: 1200 })?,
 //!     ] {
 //!         let item = op.item();
-//!         let stood = stood(&items, item);
+//!         let located = located(&items, item);
 //!         add_place(&mut places, &items, &op)?;
-//!         items = items.note(&op)?;
-//!         mend(&rt.alloc(), &mut session, stood, &items, &places, item)?;
+//!         items = items.apply(&op)?;
+//!         update(&rt.alloc(), &mut session, located, &items, &places, item)?;
 //!     }
-//!     // the entry of `News` was taken out at 480, and stands at 1200 now, behind `Weather`
+//!     // the entry of `News` at 480 was removed, and is now at 1200, after `Weather`
 //!     let markers = session.markers.items();
 //!     assert_eq!(rt; (markers[0].marker, markers[0].at), (weather, 960));
 //!     assert_eq!(rt; (markers[1].marker, markers[1].at), (news, 1200));
@@ -76,11 +75,11 @@
 //! }
 //! ```
 //!
-//! An item is a track, a marker or a clip, and stays one: [`mend`] calls [`update_tracks`],
-//! [`update_markers`] or [`update_clips`], and the other lists stay. A track goes behind those
-//! whose places stand before its own in the list, which are found by halving. One that stood there
-//! keeps its clips; one that returns is made anew with all of them ([`whole_track`]), and a new one
-//! has none.
+//! An item is a track, a marker or a clip for good: [`update`] calls [`update_tracks`],
+//! [`update_markers`] or [`update_clips`], and the other lists stay the same. A track is inserted
+//! after the tracks whose places come before its own in the list of places, found by binary search.
+//! A track that was shown before keeps its clips; one that is restored is made again with all of
+//! them ([`whole_track`]), and a new one has none.
 #![tactic(auto)]
 
 mod before;

@@ -1,4 +1,4 @@
-//! The markers of a session, mended by one operation more.
+//! The markers of a session, updated by one more operation.
 
 ghost use Rattle.std.specs.Prelude.{◌≡◌, true, false, ◌&&◌, Option, None, option_map};
 ghost use Rattle.std.specs.Prelude.{if◌then◌else◌, IfOk, IfSome, OnOk, OnErr, ◌⊎◌};
@@ -24,7 +24,7 @@ use mt_stamp::Stamp;
 use session_state::ItemStates;
 use std::alloc::{AllocError, Allocator};
 
-// The title of a marker, where one of this stamp is present.
+// The title of a marker, if one of this stamp is present.
 fn marker_title<A: Allocator>(items: &ItemStates<A>, item: Stamp) -> Option<&Register<Title<A>>>
     ensures { option_map (λ r. r.now) result ≡ (if is_need_met items.now (need_of MarkerRole item)
         && is_present items.now item then last_write title_written item items.now else None) }
@@ -39,7 +39,7 @@ fn marker_title<A: Allocator>(items: &ItemStates<A>, item: Stamp) -> Option<&Reg
     None
 }
 
-// The marker of a stamp, where one is present.
+// The marker of a stamp, if one is present.
 fn marker_at<A: Allocator + Clone>(
     items: &ItemStates<A>,
     item: Stamp,
@@ -60,8 +60,8 @@ fn marker_at<A: Allocator + Clone>(
     }))
 }
 
-/// The position, in frames, at which the session of the noted operations shows the marker of a
-/// stamp; `None` where it shows none. Takes the logarithm of the number of items, and no memory.
+/// The position, in frames, of the marker of a stamp in the session of the applied operations;
+/// `None` if it shows none. Takes time log n for n items, and allocates no memory.
 pub fn marker_position<A: Allocator>(items: &ItemStates<A>, item: Stamp) -> Option<u32>
     ensures { result ≡ marker_position items.now item }
 {
@@ -71,7 +71,7 @@ pub fn marker_position<A: Allocator>(items: &ItemStates<A>, item: Stamp) -> Opti
     }
 }
 
-// Takes out the marker of a stamp that stood at a position.
+// Removes the marker of a stamp from the position where it was found.
 fn take_located<A: Allocator>(session: &mut Session<A>, located: Option<u32>, item: Stamp)
     ensures { session.new ≡ record session.old { markers = without_located located item
         session.old.markers } }
@@ -81,8 +81,8 @@ fn take_located<A: Allocator>(session: &mut Session<A>, located: Option<u32>, it
     }
 }
 
-// Puts a marker in: in the place of the one that stood, where it stays there, and else in its new
-// place, after that one was taken out.
+// Puts a marker into the session: if its position is unchanged, it replaces the marker found
+// before; otherwise that one is removed and this one inserted in its new place.
 fn put_in<A: Allocator>(
     session: &mut Session<A>,
     located: Option<u32>,
@@ -106,13 +106,12 @@ fn put_in<A: Allocator>(
     session.put_marker(view)
 }
 
-/// Mends the markers of a session after one operation more was noted: takes out the marker that is
-/// its item, from the position at which it stood before (`marker_position` of the operations
-/// before), and puts in the one that the operations show now; where that stands at the same
-/// position it takes its place, and nothing moves. Takes as many comparisons as the logarithm of
-/// the number of markers and items, and moves what follows else. Refused only as `AllocError`,
-/// where an allocation failed: the session is then as it was, or lacks the marker that stood there,
-/// and that alone.
+/// Updates the markers of a session after one more operation was applied: removes the marker that
+/// is its item from its old position (`marker_position` of the operations before), and inserts it
+/// at the new one. If the position is the same, the marker is replaced there, and nothing moves.
+/// Takes log n comparisons for n markers and items, and otherwise moves the later markers. Fails
+/// only with `AllocError`, when an allocation fails: the session is then unchanged, or lacks only
+/// the marker that was there.
 pub fn update_markers<A: Allocator + Clone>(
     session: &mut Session<A>,
     located: Option<u32>,

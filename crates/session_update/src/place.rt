@@ -1,4 +1,4 @@
-//! The list of the places of tracks, with the place that one operation more gives.
+//! The list of the places of tracks, with the place that one more operation gives.
 
 ghost use Rattle.std.specs.Prelude.{◌≡◌, ◌∷◌, ◌+◌, false, option_map, OnErr, OnOk, ℕ};
 ghost use Rattle.std.specs.List.{sum_by};
@@ -28,7 +28,7 @@ fn place_given<A: Allocator>(op: &Op<A>) -> Option<Placed>
     }
 }
 
-// Puts a new place into a list that has what it was put after.
+// Inserts a new place into a list that has the place that it is put after.
 fn put_place<A: Allocator>(list: &mut TrackList<A>, placed: Placed) -> Result<(), AllocError>
     requires new { has_place list.old placed.place ≡ false }
     requires reference { IsReferenceThere list.old placed.after }
@@ -45,9 +45,9 @@ fn put_place<A: Allocator>(list: &mut TrackList<A>, placed: Placed) -> Result<()
     }
 }
 
-/// Puts the place that an operation gives a track, if it gives one, into the list of the places of
-/// those noted before it. Looks at one place after another. Refused only as `AllocError`, where an
-/// allocation failed; the list is then unchanged.
+/// Inserts the place that an operation gives a track, if it gives one, into the list of the places
+/// of the operations applied before it. A linear search. Fails only with `AllocError`, when an
+/// allocation fails; the list is then unchanged.
 pub fn add_place<A: Allocator>(
     list: &mut TrackList<A>,
     items: &ItemStates<A>,

@@ -1,4 +1,4 @@
-//! A session, mended by one operation more.
+//! A session, updated by one more operation.
 
 ghost use Rattle.std.specs.Prelude.{◌≡◌, OnOk, OnErr};
 ghost use Rattle.session_update.specs.Updating.{session_in};
@@ -15,8 +15,8 @@ use mt_tracklist::TrackList;
 use session_state::ItemStates;
 use std::alloc::{AllocError, Allocator};
 
-/// Where the item of a stamp stands in the session of the noted operations, for `mend` after one
-/// operation more about it. Takes the logarithm of the number of items, and no memory.
+/// The place of the item of a stamp in the session of the applied operations, for `update` after
+/// one more operation about it. Takes time log n for n items, and allocates no memory.
 pub fn located<A: Allocator>(items: &ItemStates<A>, item: Stamp) -> Located
     ensures { result ≡ located_in items.now item }
 {
@@ -31,12 +31,12 @@ pub fn located<A: Allocator>(items: &ItemStates<A>, item: Stamp) -> Located
     }
 }
 
-/// Mends a session after one operation more was noted: takes the entry of its item out where it
-/// stood before (`stood` of the operations before), and puts in the one that they show now. `list`
-/// has the places of all of them (`add_place`), and the number held stays. Takes as long as
-/// `update_tracks`, `update_markers` or `update_clips`, by what the item is. Refused only as
-/// `AllocError`, where an allocation failed: the session is then as it was, or lacks the entry that
-/// stood there, and that alone.
+/// Updates a session after one more operation was applied: removes the old entry of its item
+/// (`located` of the operations before), and inserts the new one. `list` has the places of all
+/// applied operations (`add_place`); the number held is unchanged. Takes the time of
+/// `update_tracks`, `update_markers` or `update_clips`, depending on the kind of the item. Fails
+/// only with `AllocError`, when an allocation fails: the session is then unchanged, or lacks only
+/// the old entry.
 pub fn update<A: Allocator + Clone>(
     alloc: &A,
     session: &mut Session<A>,

@@ -1,4 +1,4 @@
-//! The track that a session shows of a stamp, made anew.
+//! The track that a session shows for a stamp, made from the items.
 
 ghost use Rattle.std.specs.Prelude.{◌≡◌, true, false, ◌&&◌, Option, None, option_map};
 ghost use Rattle.std.specs.Prelude.{if◌then◌else◌, IfOk};
@@ -22,7 +22,7 @@ use mt_stamp::{List, Stamp};
 use session_state::ItemStates;
 use std::alloc::{AllocError, Allocator};
 
-// The clip of a stamp, where it is present and on a track.
+// The present clip of a stamp, if it is on this track.
 fn clip_on<A: Allocator>(items: &ItemStates<A>, track: Stamp, clip: Stamp) -> Option<ClipView>
     ensures { result ≡ clip_on items.now track clip }
 {
@@ -32,7 +32,7 @@ fn clip_on<A: Allocator>(items: &ItemStates<A>, track: Stamp, clip: Stamp) -> Op
     }
 }
 
-// The clips that are on a track, in the order in which they were noted.
+// The clips on a track, in the order in which they were applied.
 fn clips_on<A: Allocator + Clone>(
     alloc: A,
     items: &ItemStates<A>,
@@ -50,7 +50,7 @@ fn clips_on<A: Allocator + Clone>(
     Ok(clips)
 }
 
-// Puts clips in order: by position, then by the stamp that gave their place.
+// Sorts clips by position, then by the stamp of their place.
 fn sort_clips<A: Allocator>(clips: Vec<ClipView, A>) -> Result<Vec<ClipView, A>, AllocError>
     ensures moved { IfOk result (λ sorted. IsPermutation clips.items sorted.items) }
     ensures sorted { IfOk result (λ sorted. IsSorted clip_cmp sorted.items) }
@@ -60,9 +60,8 @@ fn sort_clips<A: Allocator>(clips: Vec<ClipView, A>) -> Result<Vec<ClipView, A>,
     Ok(sorted)
 }
 
-/// The clips that are present and on a track, in order: by position, and then by the stamp that
-/// gave their place. Looks at every clip, and takes n log n for the n that are on the track.
-/// Refused only as `AllocError`.
+/// The present clips on a track in order: by position, and then by the stamp of their place. Visits
+/// every clip, and takes time n log n for the n on the track. Fails only with `AllocError`.
 pub fn track_clips<A: Allocator + Clone>(
     alloc: A,
     items: &ItemStates<A>,
@@ -76,7 +75,7 @@ pub fn track_clips<A: Allocator + Clone>(
     Ok(sorted)
 }
 
-// Whether the session shows a track of a stamp.
+// Whether the session shows the track of a stamp.
 fn is_shown<A: Allocator>(items: &ItemStates<A>, item: Stamp) -> bool
     ensures { result ≡ (is_need_met items.now (need_of TrackRole item) && is_present items.now item)
         }
@@ -88,7 +87,7 @@ fn is_shown<A: Allocator>(items: &ItemStates<A>, item: Stamp) -> bool
     items.meets(&need) && items.is_present(item)
 }
 
-// The track of a stamp with these clips, where the session shows one.
+// The track of a stamp with these clips, if the session shows it.
 pub(crate) fn shown_with<A: Allocator + Clone>(
     items: &ItemStates<A>,
     item: Stamp,
@@ -116,9 +115,9 @@ pub(crate) fn shown_with<A: Allocator + Clone>(
     }))
 }
 
-/// The track of a stamp with all its clips, where the session of the noted operations shows one:
-/// one that was added or that returns. Looks at every clip, and takes n log n for the n that are on
-/// the track. Refused only as `AllocError`.
+/// The track of a stamp with all its clips, if the session of the applied operations shows it: for
+/// a track that was added or is restored. Visits every clip, and takes time n log n for the n on
+/// the track. Fails only with `AllocError`.
 pub fn whole_track<A: Allocator + Clone>(
     alloc: A,
     items: &ItemStates<A>,

@@ -1,4 +1,4 @@
-//! The tracks of a session, mended by one operation more.
+//! The tracks of a session, updated by one more operation.
 
 ghost use Rattle.std.specs.Prelude.{◌≡◌, ◌≢◌, [], true, false, ◌&&◌, find, IfOk, IfSome, OnOk};
 ghost use Rattle.std.specs.Prelude.{OnErr};
@@ -23,7 +23,7 @@ use mt_tracklist::{Placed, TrackList};
 use session_state::ItemStates;
 use std::alloc::{AllocError, Allocator};
 
-// Takes the track of a stamp out, where it is shown, and gives it back.
+// Removes the track of a stamp, if it is shown, and returns it.
 fn take_out<A: Allocator>(session: &mut Session<A>, item: Stamp) -> Option<TrackView<A>>
     requires once { DifferBy (λ (t : Track). t.track) session.old.tracks }
     ensures taken { result ≡ find (is_track_of item) session.old.tracks }
@@ -36,8 +36,8 @@ fn take_out<A: Allocator>(session: &mut Session<A>, item: Stamp) -> Option<Track
     }
 }
 
-// The track of a stamp, where it is shown: with the clips of the one that was taken out, or else
-// with all its clips, of which one that was not known before has none.
+// The new entry of a track, if it is shown: with the clips of the track that was removed, or
+// otherwise with all its clips; a track that was not known before has none.
 fn track_now<A: Allocator + Clone>(
     alloc: &A,
     items: &ItemStates<A>,
@@ -65,7 +65,7 @@ fn track_now<A: Allocator + Clone>(
     }
 }
 
-// Where a place stands among places; how many there are, where it is not there.
+// The index of a place among places; the number of places if it is not there.
 fn index_in(places: &[Placed], place: Stamp) -> usize
     ensures { result ≡ index_in places.now place }
 {
@@ -77,7 +77,7 @@ fn index_in(places: &[Placed], place: Stamp) -> usize
     places.len()
 }
 
-// Where a track stands: its current place.
+// The current place of a track.
 fn track_place<A: Allocator>(items: &ItemStates<A>, track: Stamp) -> Stamp
     ensures { result ≡ track_place_in items.now track }
 {
@@ -87,14 +87,14 @@ fn track_place<A: Allocator>(items: &ItemStates<A>, track: Stamp) -> Stamp
     }
 }
 
-// Where the place of a track stands among places; how many there are, where it is not there.
+// The index of the place of a track among places; the number of places if it is not there.
 fn place_index<A: Allocator>(items: &ItemStates<A>, places: &[Placed], track: Stamp) -> usize
     ensures { result ≡ place_index places.now items.now track }
 {
     index_in(places, track_place(items, track))
 }
 
-// Whether the place of a track stands before an index.
+// Whether the place of a track comes before an index.
 fn stands_before<A: Allocator>(
     items: &ItemStates<A>,
     places: &[Placed],
@@ -106,7 +106,8 @@ fn stands_before<A: Allocator>(
     place_index(items, places, track.track).cmp(&index).is_lt()
 }
 
-// How many tracks, which are in the order of their places, stand before the place of a track.
+// The number of tracks, out of these in the order of their places, that come before the place of a
+// track.
 fn track_index<A: Allocator>(
     tracks: &[TrackView<A>],
     items: &ItemStates<A>,
@@ -120,7 +121,7 @@ fn track_index<A: Allocator>(
     tracks.partition_point(|view| stands_before(items, places, view, index))
 }
 
-// Puts a track in by its place, where there is one.
+// Inserts a track by its place, if there is a track.
 fn put_shown<A: Allocator>(
     session: &mut Session<A>,
     items: &ItemStates<A>,
@@ -144,14 +145,14 @@ fn put_shown<A: Allocator>(
     }
 }
 
-/// Mends the tracks of a session after one operation more was noted, whose item is a track: takes
-/// the track out where it stood, and puts it in where it stands now, if it is shown. One that stood
-/// there keeps its clips; one that returns gets all its clips anew, which takes a look at every
-/// clip; and one that was not `known` before (whether it was added, as `stood` tells) has none.
-/// `list` has the places of all noted operations (`add_place`). Looks at one track after another,
-/// and at one place after another as many times as the logarithm of the number of tracks; what
-/// follows the track moves. Refused only as `AllocError`, where an allocation failed: the session
-/// then lacks the track with its clips, if it stood there, and is else as it was.
+/// Updates the tracks of a session after one more operation was applied, whose item is a track:
+/// removes the track where it was, and inserts it at its current place, if it is shown. A track
+/// that was shown keeps its clips; a restored one gets all its clips again, which visits every
+/// clip; one that was not `known` before (see `located`) has none. `list` has the places of all
+/// applied operations (`add_place`). The search is linear in the tracks, and linear in the places
+/// log n times for n tracks; the later tracks move. Fails only with `AllocError`, when an
+/// allocation fails: the session then lacks the track with its clips, if it was there, and is
+/// otherwise unchanged.
 pub fn update_tracks<A: Allocator + Clone>(
     alloc: &A,
     session: &mut Session<A>,

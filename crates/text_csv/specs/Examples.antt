@@ -1,4 +1,4 @@
--- Rows: what the definitions compute.
+-- Worked examples of rows.
 use Rattle.std.specs.Prelude.{◌≡◌, [], ◌∷◌, Some, None, refl, codes}
 use Rattle.std.specs.Fmt.{digits}
 use Rattle.csv.specs.Writing.{escaped, fields_text, is_blank}
@@ -9,7 +9,7 @@ pub the_header : line header
 unfolding line fields_text is_blank
 the_header = refl
 
--- a field is in quotes where it holds a comma or a quote, and a quote in it is two
+-- a field is in quotes if it has a comma or a quote, and a quote in it is doubled
 pub quoted : line (codes "=1" ∷ codes "a, \"b\"" ∷ [])
     ≡ codes "=1,\"a, \"\"b\"\"\"\n"
 unfolding line fields_text is_blank escaped

@@ -1,5 +1,5 @@
--- A session as one table (profile), in the form of RFC 4180 with a line feed behind each row: a row
--- for each track, behind it one for each of its clips, and at the end one for each marker.
+-- A session as one table (profile), in the form of RFC 4180 with a line feed after each row: a row
+-- for each track, followed by one for each of its clips, and at the end one for each marker.
 use Rattle.std.specs.Prelude.{ℕ, Bool, List, [], ◌∷◌, ◌++◌, Option, Some, None, codes}
 use Rattle.std.specs.Prelude.{if◌then◌else◌}
 use Rattle.std.specs.Fmt.{decimal}
@@ -41,7 +41,7 @@ track_row t =
     codes "track" ∷ stamp_text t.track ∷ [] ∷ [] ∷ [] ∷ []
     ∷ gain_text t.gain ∷ switch_text t.mute ∷ [] ∷ [] ∷ t.title ∷ [] ∷ []
 
--- a clip, on the track of this stamp
+-- the row of a clip, on the track of this stamp
 abbrev pub clip_row : Option ℕ → Stamp → Clip → Row
 clip_row rate track c =
     codes "clip" ∷ stamp_text c.clip ∷ stamp_text track
@@ -56,7 +56,7 @@ marker_row rate m =
 
 -- ---- the table
 
--- a row: fields are in quotes where they must be
+-- the text of a row: fields are in quotes if necessary
 unfoldable pub line : Row → List ℕ
 line row = row_text default_writer row
 
@@ -69,7 +69,7 @@ track_text rate t = line (track_row t) ++ clips_text rate t.track t.clips
 abbrev pub markers_text : Option ℕ → List Marker → List ℕ
 markers_text rate ms = flat_map (λ m. line (marker_row rate m)) ms
 
--- Fields hold what the session holds, whatever they begin with.
+-- Fields have the values of the session unchanged, whatever they begin with.
 abbrev pub table : Option ℕ → Session → List ℕ
 table rate c =
     line header

@@ -20,15 +20,15 @@
 //!     let session = from_scratch(rt.alloc(), &log)?;
 //!     let text = session_table(rt.alloc(), None, &session)?;
 //!     assert!(rt; text.as_slice() == TABLE);
-//!     // in seconds, at 48000 frames a second
+//!     // in seconds, at 48000 frames per second
 //!     let text = session_table(rt.alloc(), Some(48000), &session)?;
 //!     assert!(rt; text.windows(8).any(|part| part == b"1.500000".as_slice()));
 //!     Ok(())
 //! }
 //! ```
 //!
-//! `specs/Table.antt` is the table, and the crate `csv` writes it: a field is in quotes where it
-//! holds a comma, a quote or the end of a line.
+//! `specs/Table.antt` defines the table, and the crate `csv` writes it: a field is in quotes if it
+//! has a comma, a quote or a line end.
 #![tactic(auto)]
 
 mod field;

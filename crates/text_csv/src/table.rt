@@ -93,13 +93,13 @@ fn put_rows<A: Allocator, B: Allocator, C: Allocator>(
 
 /// A session as one table of comma-separated values (RFC 4180, with LF), with the columns kind,
 /// stamp, track, at, offset, length, gain, mute, fade_in, fade_out, title and source: a row `track`
-/// for each track, behind it a row `clip` for each of its clips, and at the end a row `marker` for
-/// each marker, in the session's order. Column `track` is the stamp of a clip's track, `gain` is
-/// NUM/DEN, `mute` `on` or `off`, `source` the digest of a clip's recording; others are empty.
-/// Positions and lengths are frames, or with a rate, 1 and more, seconds with six decimals,
-/// rounded half up. Titles are written as they are, whatever they begin with.
+/// for each track, followed by a row `clip` for each of its clips, and at the end a row `marker`
+/// for each marker, in the session's order. Column `track` is the stamp of a clip's track, `gain`
+/// is NUM/DEN, `mute` `on` or `off`, `source` the digest of a clip's recording; the others are
+/// empty. Positions and lengths are frames, or with a rate, at least 1, seconds with six decimals,
+/// rounded half up. Titles are written unchanged, whatever they begin with.
 ///
-/// An error where memory ran out.
+/// An error when an allocation fails.
 pub fn session_table<A: Allocator + Clone, B: Allocator>(
     alloc: A,
     rate: Option<u32>,

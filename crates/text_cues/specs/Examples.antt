@@ -1,4 +1,4 @@
--- Labels and lines: what the definitions compute.
+-- Worked examples of labels and lines.
 use Rattle.std.specs.Prelude.{◌≡◌, ◌++◌, [], ◌∷◌, Some, None, Ok, refl, codes}
 use Rattle.std.specs.Fmt.{digits}
 use Rattle.std.specs.Str.{chars, is_utf8}
@@ -9,12 +9,12 @@ use Rattle.text_cues.specs.Title.{escaped, kept_byte, shown, cut_short, title_of
 use Rattle.text_cues.specs.Marker.{marker_lines}
 use Rattle.text_cues.specs.CueLines.{cue_fault, lines_from}
 
--- a line feed, and a byte of no character
+-- a line feed, and a byte that belongs to no character
 pub escapes : shown (codes "a\\" ++ 10 ∷ 0xFF ∷ codes "b") ≡ codes "a\\\\x0a\\xffb"
 unfolding shown escaped kept_byte utf8_valid_len is_utf8 chars encode_with lib.Utf8.encode
 escapes = refl
 
--- a character of two bytes, and one that is not whole
+-- a character of two bytes, and an incomplete one
 pub characters : shown (0xC3 ∷ 0xA9 ∷ 0xC3 ∷ []) ≡ 0xC3 ∷ 0xA9 ∷ codes "\\xc3"
 unfolding shown escaped kept_byte utf8_valid_len is_utf8 chars encode_with lib.Utf8.encode
 characters = refl
@@ -43,7 +43,7 @@ pub too_many : cue_fault 3 4294967296 4294967296 ≡ Some TooManyLines
 unfolding cue_fault
 too_many = refl
 
--- two cue points, the first of them with a length: the second has the line 3
+-- two cue points, of which the first has a length: the second begins at line 3
 pub two_cues : lines_from 0 1 100
     (record { name = 1; at = 5; length = Some 6; label = Some (codes "A") }
     ∷ record { name = 2; at = 7; length = None; label = None } ∷ [])

@@ -1,4 +1,4 @@
--- The number of each refusal.
+-- The number of each error.
 use Rattle.std.specs.Prelude.{ℕ}
 use Rattle.text_cues.specs.declared.fault.CuesFault.{CuesFault}
 use Rattle.text_cues.specs.declared.fault.CuesFault.TheVariants.{Memory, RateDiffers, TooLong}

@@ -1,4 +1,4 @@
--- What holds of the titles of labels, and of the lines of markers.
+-- Laws of the titles of labels, and of the lines of markers.
 use Rattle.std.specs.Prelude.{◌≡◌, ◌<◌, ◌^◌, ℕ, true, List, Some}
 use Rattle.std.specs.List.{AllByRecursion}
 use Rattle.mt_stamp.specs.StampOrder.{Stamp}
@@ -11,17 +11,18 @@ use Rattle.mt_script.specs.Forms.{Items, asked}
 use Rattle.text_cues.specs.Title.{title_of}
 use Rattle.text_cues.specs.Marker.{length_words}
 
--- Whatever the bytes of a label are, its title is one.
+-- The title of a label is a title, whatever the bytes of the label.
 abbrev pub LabelsBecomeTitles : Type 0
 LabelsBecomeTitles =
     (label : List ℕ) → AllByRecursion (λ b. b < 256) label → is_title (title_of label) ≡ true
 
--- A label that is a title stays as it is.
+-- A label that is a title is its own title.
 abbrev pub TitlesStay : Type 0
 TitlesStay = (title : List ℕ) → is_title title ≡ true → title_of title ≡ title
 
--- As a line of a script, whatever the lines before it made, the first line of a marker asks for
--- that marker; the second asks for the length of the marker that the line of its number made.
+-- Read as a line of a script, whatever the lines before it made, the first line of a marker
+-- requests that marker, and the second the length of the marker that the line of the given number
+-- made.
 pub record LinesAsk : Type 0 where
   pub adds : (items : Items) (at : ℕ) (title : List ℕ) → at < 2 ^ 32 → is_title title ≡ true
       → asked items (act_text (AddMarker at title)) ≡ Some (edit.AddMarker at title)

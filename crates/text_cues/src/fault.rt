@@ -1,4 +1,4 @@
-//! Why no lines are made of cue points.
+//! The errors of the lines of cue points.
 
 ghost use Rattle.std.specs.Prelude.{◌≡◌};
 ghost use Rattle.text_cues.specs.Faults.{number_of};
@@ -7,10 +7,10 @@ ghost use Rattle.text_cues.specs.declared.fault.CuesFault.TheVariants.{Memory};
 use std::alloc::{AllocError, AllocFailed};
 use thiserror::Error;
 
-/// Why no lines are made of cue points. Each refusal has a number that never changes.
+/// Why no lines can be made of cue points. Each error has a number that never changes.
 #[derive(Clone, Copy, Debug, PartialEq, Eq, Error)]
 pub enum CuesFault {
-    /// Memory ran out.
+    /// An allocation failed.
     #[error("out of memory")]
     Memory,
     /// The recording has another rate.
@@ -25,7 +25,7 @@ pub enum CuesFault {
 }
 
 impl CuesFault {
-    /// The refusal's number: 0, 34 or 35.
+    /// The error's number: 0, 34 or 35.
     pub fn number(&self) -> u8
         ensures { result ≡ number_of self.now }
     {

@@ -10,7 +10,7 @@ use mt_bwfread::{Cue, Wave};
 use std::alloc::{AllocError, Allocator};
 use std::collections::BTreeMap;
 
-/// The first length of each name.
+/// The first length for each name of a cue point, in frames. Fails only when an allocation fails.
 pub fn first_lengths<A: Allocator + Clone>(
     alloc: A,
     wave: &Wave<'_>,
@@ -27,7 +27,7 @@ pub fn first_lengths<A: Allocator + Clone>(
     Ok(lengths)
 }
 
-/// The first label of each name.
+/// The first label for each name of a cue point. Fails only when an allocation fails.
 pub fn first_labels<'a, A: Allocator + Clone>(
     alloc: A,
     wave: &Wave<'a>,
@@ -73,8 +73,9 @@ fn cues_with<'a, A: Allocator, B: Allocator>(
     Ok(cues)
 }
 
-/// The cue points of a wave file, in their order, each with the first length and the first label of
-/// its name. In a time of n log n for the n cue points, lengths and labels.
+/// The cue points of a wave file, in the file's order, each with the first length and the first
+/// label of its name. Takes time n log n for n cue points, lengths and labels. Fails only when an
+/// allocation fails.
 pub fn cues_in<'a, A: Allocator + Clone>(
     alloc: A,
     wave: &Wave<'a>,

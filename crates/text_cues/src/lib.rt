@@ -16,26 +16,26 @@
 //!
 //! fn prints_cue_points(rt: HostRuntime) -> Result<(), Fail> {
 //!     let wave = Wave::read(FILE)?;
-//!     // the recording is laid at frame 1000, and the first line is the script's fifth
+//!     // the recording is placed at frame 1000, and the first line is the script's fifth
 //!     let made = cue_lines(rt.alloc(), 48000, 5, 1000, &wave)?;
 //!     assert!(rt; made.text.as_slice() == SCRIPT);
 //!     assert!(rt; made.next == 7);
-//!     // one of another rate has none
+//!     // a recording of another rate has no lines
 //!     let fault = cue_lines(rt.alloc(), 44100, 1, 0, &wave).err();
 //!     assert!(rt; fault == Some(CuesFault::RateDiffers));
 //!     Ok(())
 //! }
 //!
 //! fn makes_titles(rt: HostRuntime) -> Result<(), Fail> {
-//!     // characters stay, and a byte that belongs to none is escaped
+//!     // characters are kept, and a byte that belongs to none is escaped
 //!     let title = label_title(rt.alloc(), b"caf\xc3\xa9 \\ \xe9")?;
 //!     assert!(rt; title.as_slice() == b"caf\xc3\xa9 \\ \\xe9".as_slice());
 //!     Ok(())
 //! }
 //! ```
 //!
-//! `specs/Title.antt` says what title a label becomes, `specs/Marker.antt` what the lines of a
-//! marker are, and `specs/CueLines.antt` what is made of a wave file.
+//! `specs/Title.antt` defines the title of a label, `specs/Marker.antt` the lines of a marker, and
+//! `specs/CueLines.antt` the lines of a wave file.
 #![tactic(auto)]
 
 mod fault;

@@ -6,7 +6,7 @@ ghost use Rattle.text_cues.specs.Marker.{marker_line, length_line, marker_lines,
 use base_text::append_decimal;
 use std::alloc::{AllocError, Allocator};
 
-// Writes `add-marker AT TITLE` and a line feed.
+// Appends `add-marker AT TITLE` and a line feed.
 fn append_marker_line<A: Allocator>(
     text: &mut Vec<u8, A>,
     at: u32,
@@ -21,7 +21,7 @@ fn append_marker_line<A: Allocator>(
     text.extend_from_slice(b"\n")
 }
 
-// Writes `marker-length $LINE LEN` and a line feed.
+// Appends `marker-length $LINE LEN` and a line feed.
 fn append_length_line<A: Allocator>(
     text: &mut Vec<u8, A>,
     line: u64,
@@ -36,9 +36,9 @@ fn append_length_line<A: Allocator>(
     text.extend_from_slice(b"\n")
 }
 
-/// Writes a marker as lines of a script, the first of which has the number `line` there:
-/// `add-marker AT TITLE`, and `marker-length $LINE LEN` where the length is not 0. The title stands
-/// there as it is. Where memory runs out, `text` has an unknown part of them.
+/// Appends a marker as lines of a script, the first of which has the number `line` there:
+/// `add-marker AT TITLE`, and `marker-length $LINE LEN` if the length is not 0. The title is
+/// written unchanged. If an allocation fails, an unspecified part of the lines is appended.
 pub fn append_marker<A: Allocator>(
     text: &mut Vec<u8, A>,
     line: u64,
@@ -55,7 +55,7 @@ pub fn append_marker<A: Allocator>(
     append_length_line(text, line, len)
 }
 
-/// How many lines a marker of this length has: 1 where it is 0, else 2.
+/// The number of lines of a marker of this length: 1 if it is 0, and 2 otherwise.
 pub fn marker_line_count(len: u32) -> u64
     ensures { result ≡ line_count len }
 {

@@ -19,11 +19,11 @@ use std::alloc::{AllocError, Allocator, Global};
 pub struct Lines<A: Allocator = Global> {
     /// The lines, each ended by a line feed.
     pub text: Vec<u8, A>,
-    /// The number that the line after them has in the script.
+    /// The number of the line after them in the script.
     pub next: u64,
 }
 
-// How many frames the marker of a cue point spans: none where it has no length.
+// The number of frames that the marker of a cue point spans: 0 if the cue point has no length.
 fn length_of(cue: &Cue<'_>) -> u32
     ensures { result ≡ length_of (cue_text cue.now) }
 {
@@ -33,7 +33,7 @@ fn length_of(cue: &Cue<'_>) -> u32
     }
 }
 
-// The bytes of a cue point's label: none where it has no label.
+// The bytes of a cue point's label: none if it has no label.
 fn label_of<'a>(cue: &Cue<'a>) -> &'a [u8]
     ensures { result.now ≡ label_of (cue_text cue.now) }
 {
@@ -43,7 +43,7 @@ fn label_of<'a>(cue: &Cue<'a>) -> &'a [u8]
     }
 }
 
-// Why the cue point of this index has no lines, if it has none.
+// Why the cue point of this index has no lines, or `None` if it has lines.
 #[tactic(auto, unfolding(crate::specs::CueLines::cue_fault))]
 fn fault_of(index: usize, line: u64, position: u64) -> Option<CuesFault>
     ensures value { result ≡ cue_fault index line position }
@@ -59,7 +59,7 @@ fn fault_of(index: usize, line: u64, position: u64) -> Option<CuesFault>
     None
 }
 
-// Writes the lines of a cue point whose marker is at this position.
+// Appends the lines of a cue point whose marker is at this position.
 fn append_cue<A: Allocator + Clone>(
     alloc: A,
     text: &mut Vec<u8, A>,
@@ -99,14 +99,15 @@ fn lines_of<A: Allocator + Clone>(
     Ok(Lines { text, next })
 }
 
-/// The cue points of a wave file as lines of a script that adds a marker for each, in their order:
-/// `add-marker AT TITLE`, and `marker-length $LINE LEN` where it has a length over 0. AT is the
-/// position of the cue point and `at` more, TITLE its label as `label_title` makes it. The first
+/// The cue points of a wave file as lines of a script that adds a marker for each, in the file's
+/// order: `add-marker AT TITLE`, and `marker-length $LINE LEN` if the length is over 0. AT is the
+/// position of the cue point plus `at`, and TITLE is its label, made by `label_title`. The first
 /// line has the number `line` in the script.
 ///
-/// `RateDiffers` (34) where the file is of another rate. Then at the first cue point at fault
-/// `TooManyLines` (35) where its first line would have a number over 4,294,967,295, and `TooLong`
-/// (35) with its index, from 0 on, where AT would be over that. `Memory` (0) where memory ran out.
+/// Fails with `RateDiffers` (34) if the file has another rate. Then fails at the first cue point at
+/// fault: with `TooManyLines` (35) if its first line has a number over 4,294,967,295, and with
+/// `TooLong` (35) and its index, from 0 on, if AT is over that. Fails with `Memory` (0) when an
+/// allocation fails.
 pub fn cue_lines<A: Allocator + Clone>(
     alloc: A,
     rate: u32,

@@ -1,4 +1,4 @@
-//! Bytes of any kind as text that a title may hold.
+//! Any bytes as text that is allowed in a title.
 
 ghost use Rattle.std.specs.Prelude.{◌≡◌, ◌≤◌, ◌++◌, length, OnOk, IfOk};
 ghost use Rattle.std.specs.Str.Lossy.{utf8_valid_len};
@@ -7,7 +7,7 @@ ghost use Rattle.text_cues.specs.Title.{escaped, kept_byte, kept, shown, cut_sho
 use std::alloc::{AllocError, Allocator};
 use std::str;
 
-// How many bytes the longest front has that is UTF-8.
+// The length in bytes of the longest prefix that is UTF-8.
 fn valid_len(bytes: &[u8]) -> usize
     ensures value { result ≡ utf8_valid_len bytes.now }
     ensures within { result ≤ length bytes.now }
@@ -18,7 +18,7 @@ fn valid_len(bytes: &[u8]) -> usize
     }
 }
 
-// Writes a byte as `\x` and two digits.
+// Appends a byte as `\x` and two digits.
 #[tactic(auto, unfolding(crate::specs::Title::escaped))]
 fn append_escaped<A: Allocator>(text: &mut Vec<u8, A>, byte: u8) -> Result<(), AllocError>
     ensures { OnOk result (text.new.items ≡ text.old.items ++ escaped byte) }
@@ -28,7 +28,7 @@ fn append_escaped<A: Allocator>(text: &mut Vec<u8, A>, byte: u8) -> Result<(), A
     text.extend_from_slice(&[b'\\', b'x', digits[0], digits[1]])
 }
 
-// Writes a byte of a character, or escapes it where a title may not hold the character.
+// Appends a byte of a character, or its escape if the character is not allowed in a title.
 #[tactic(auto, unfolding(crate::specs::Title::kept_byte))]
 fn append_byte<A: Allocator>(text: &mut Vec<u8, A>, byte: u8) -> Result<(), AllocError>
     ensures { OnOk result (text.new.items ≡ text.old.items ++ kept_byte byte) }
@@ -39,7 +39,7 @@ fn append_byte<A: Allocator>(text: &mut Vec<u8, A>, byte: u8) -> Result<(), Allo
     append_escaped(text, byte)
 }
 
-// Writes the bytes of characters so.
+// Appends the bytes of characters, each unchanged or escaped.
 fn append_kept<A: Allocator>(text: &mut Vec<u8, A>, bytes: &[u8]) -> Result<(), AllocError>
     ensures { OnOk result (text.new.items ≡ text.old.items ++ kept bytes.now) }
 {
@@ -49,9 +49,9 @@ fn append_kept<A: Allocator>(text: &mut Vec<u8, A>, bytes: &[u8]) -> Result<(), 
     Ok(())
 }
 
-/// Writes bytes as text that a title may hold, but for its length: characters of UTF-8 stay, `\`
-/// too, and each byte of none, of a character below 0x20 and of 0x7F is `\x` and two hex digits.
-/// Where memory runs out, `text` has an unknown part of it.
+/// Appends bytes as text that is allowed in a title, except for its length: UTF-8 characters are
+/// kept, `\` too, but each byte of no character, each byte below 0x20, and each 0x7F is written as
+/// `\x` and two hex digits. If an allocation fails, an unspecified part of it is appended.
 pub fn append_shown<A: Allocator>(text: &mut Vec<u8, A>, bytes: &[u8]) -> Result<(), AllocError>
     ensures { OnOk result (text.new.items ≡ text.old.items ++ shown bytes.now) }
 {
@@ -68,7 +68,7 @@ pub fn append_shown<A: Allocator>(text: &mut Vec<u8, A>, bytes: &[u8]) -> Result
     }
 }
 
-// Cuts a text behind its last whole character within 255 bytes.
+// Cuts a text after its last whole character within 255 bytes.
 #[tactic(auto, unfolding(crate::specs::Title::cut_short))]
 fn cut_short<A: Allocator>(text: &mut Vec<u8, A>)
     ensures { text.new.items ≡ cut_short text.old.items }
@@ -79,8 +79,9 @@ fn cut_short<A: Allocator>(text: &mut Vec<u8, A>)
     text.truncate(end);
 }
 
-/// The title that a marker gets from a label: as `append_shown` writes it, cut behind the last
-/// whole character within 255 bytes. A label that is a title stays as it is.
+/// The title of a marker from a label: the text that `append_shown` writes, cut after the last
+/// whole character within 255 bytes. A label that is a title is its own title. Fails only when an
+/// allocation fails.
 pub fn label_title<A: Allocator>(alloc: A, label: &[u8]) -> Result<Vec<u8, A>, AllocError>
     ensures { IfOk result (λ title. title.items ≡ title_of label.now) }
 {

@@ -1,4 +1,4 @@
--- What is heard of a track as an edit decision list of the form CMX 3600 (profile).
+-- The audible parts of a track as an edit decision list in CMX 3600 format (profile).
 use Rattle.std.specs.Prelude.{◌≡◌, ℕ, suc, ◌+◌, ◌-◌, ◌<◌, ◌≤◌, Bool, true, false, ◌&&◌}
 use Rattle.std.specs.Prelude.{List, [], ◌∷◌, ◌++◌}
 use Rattle.std.specs.Prelude.{map, length, take, Option, Some, None, codes, if◌then◌else◌}
@@ -24,8 +24,8 @@ use Rattle.text_edl.specs.Timecode.{video_frame, is_exact, is_drop, timecode}
 
 -- ---- events
 
--- what is heard of a clip in a segment: frames of its recording from one on, from a frame of the
--- session to another
+-- the event of a clip in a segment: its recording, the first frame of the recording, and the frames
+-- of the session
 abbrev pub event_of : Clip → Segment → Event
 event_of c s = record {
   source = c.source;
@@ -37,7 +37,7 @@ event_of c s = record {
 abbrev pub event_in : List Clip → Segment → Event
 event_in clips s = event_of (clip_at clips s.which) s
 
--- The events of a track, one for each segment in which one of its clips sounds: a muted track has
+-- The events of a track, one for each segment in which one of its clips sounds; a muted track has
 -- none.
 pub record Heard (clips : List Clip) (events : List Event) : Type 0 where
   pub spans : List Span
@@ -64,8 +64,8 @@ name_of (n ∷ names) d = if is_eq (digest_cmp n.source d) then Some n.name.now 
 abbrev pub reel : Digest → List ℕ
 reel d = take 8 (digest_text d)
 
--- The time codes of the source and of the record, each from the first frame to the one behind the
--- last. The source has as many frames as the record.
+-- The time codes of the source and of the record, each from the first frame to the one after the
+-- last. The source has the same number of frames as the record.
 abbrev pub times_text : FrameRate → ℕ → Event → List ℕ
 times_text fr rate e =
     let from = video_frame fr rate e.offset in
@@ -87,7 +87,7 @@ abbrev pub name_line : Option (List ℕ) → List ℕ
 name_line None = []
 name_line (Some name) = codes "* FROM CLIP NAME: " ++ (shown name ++ newline ∷ [])
 
--- whether no time code of an event is rounded
+-- whether all time codes of an event are exact
 abbrev pub is_sharp : FrameRate → ℕ → Event → Bool
 is_sharp fr rate e =
     is_exact fr rate e.offset && (is_exact fr rate e.start && is_exact fr rate e.end)
@@ -126,11 +126,11 @@ head title fr = codes "TITLE: " ++ (shown title ++ (codes "\n" ++ (mode_line fr 
 abbrev pub edl_text : List ℕ → FrameRate → ℕ → List Named → List Event → List ℕ
 edl_text title fr rate names events = head title fr ++ events_text fr rate names 1 events
 
--- the most events that a list has: their numbers have three digits
+-- the greatest number of events in a list: their numbers have three digits
 abbrev pub most_events : ℕ
 most_events = 999
 
--- a list of these events was made
+-- a text is the list of a track's events
 pub record IsListed (title : List ℕ) (fr : FrameRate) (rate : ℕ) (names : List Named) (t : Track)
     (text : List ℕ) : Type 0 where
   pub events : List Event
@@ -138,7 +138,7 @@ pub record IsListed (title : List ℕ) (fr : FrameRate) (rate : ℕ) (names : Li
   pub few : length events ≤ most_events
   pub listed : text ≡ edl_text title fr rate names events
 
--- or a track has too many events
+-- a track has too many events for a list
 pub record HasTooMany (t : Track) : Type 0 where
   pub events : List Event
   pub are_events : AreEvents t events

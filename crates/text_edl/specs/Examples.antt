@@ -1,4 +1,4 @@
--- Time codes: what the definitions compute.
+-- Worked examples of time codes.
 use Rattle.std.specs.Prelude.{◌≡◌, refl, codes}
 use Rattle.std.specs.Fmt.{digits}
 use Rattle.text_edl.specs.declared.frame_rate.FrameRate.TheVariants.{Film24, Video25, Drop2997}
@@ -9,7 +9,7 @@ pub one_second : timecode Video25 (video_frame Video25 48000 48000) ≡ codes "0
 unfolding digits
 one_second = refl
 
--- half a video frame is the later one
+-- half a video frame is rounded to the later one
 pub half_a_frame : video_frame Video25 48000 960 ≡ 1
 half_a_frame = refl
 
@@ -29,7 +29,7 @@ pub a_minute : timecode Drop2997 1800 ≡ codes "00:01:00;02"
 unfolding digits
 a_minute = refl
 
--- none is left out in the tenth minute
+-- no time code is dropped in the tenth minute
 pub before_ten_minutes : timecode Drop2997 17981 ≡ codes "00:09:59;29"
 unfolding digits
 before_ten_minutes = refl

@@ -1,4 +1,4 @@
--- The number of each refusal.
+-- The number of each error.
 use Rattle.std.specs.Prelude.{ℕ}
 use Rattle.text_edl.specs.declared.fault.EdlFault.{EdlFault}
 use Rattle.text_edl.specs.declared.fault.EdlFault.TheVariants.{Memory, TooManyEvents}

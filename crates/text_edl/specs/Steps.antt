@@ -1,4 +1,4 @@
--- How great the numbers of events are: what the code keeps, and no definition of the subject.
+-- Working definitions: the ranges of the numbers of events in the code.
 use Rattle.std.specs.Prelude.{ℕ, ◌<◌, ◌^◌, List, slice_get, ◌≡◌, Some}
 use Rattle.text_edl.specs.declared.event.Event.{Event}
 

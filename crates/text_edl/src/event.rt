@@ -1,4 +1,4 @@
-//! What is heard of a track, segment by segment.
+//! The audible parts of a track, segment by segment.
 
 ghost use Rattle.std.specs.Prelude.{◌≡◌, ◌+◌, ◌<◌, ◌≤◌, length, IfOk};
 ghost use Rattle.mt_stamp.specs.Sorting.{DifferBy};
@@ -14,16 +14,16 @@ use mt_render::spans_of;
 use mt_sessionview::{ClipView, TrackView};
 use std::alloc::{AllocError, Allocator};
 
-/// What is heard in a segment.
+/// The audible part of a recording in a segment.
 #[derive(Clone, Copy)]
 pub(crate) struct Event {
     /// The digest of the recording.
     pub(crate) source: Digest,
-    /// The first frame of the recording.
+    /// Its first frame in the recording.
     pub(crate) offset: u64,
-    /// The first frame of the session.
+    /// Its first frame in the session.
     pub(crate) start: u64,
-    /// The frame of the session behind the last.
+    /// The frame of the session after its last.
     pub(crate) end: u64,
 }
 

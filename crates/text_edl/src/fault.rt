@@ -1,4 +1,4 @@
-//! Why no edit decision list is made.
+//! The errors of an edit decision list.
 
 ghost use Rattle.std.specs.Prelude.{◌≡◌};
 ghost use Rattle.text_edl.specs.Faults.{number_of};
@@ -7,10 +7,10 @@ ghost use Rattle.text_edl.specs.declared.fault.EdlFault.TheVariants.{Memory};
 use std::alloc::{AllocError, AllocFailed};
 use thiserror::Error;
 
-/// Why no edit decision list is made. Each refusal has a number that never changes.
+/// Why an edit decision list cannot be made. Each error has a number that never changes.
 #[derive(Clone, Copy, Debug, PartialEq, Eq, Error)]
 pub enum EdlFault {
-    /// Memory ran out.
+    /// An allocation failed.
     #[error("out of memory")]
     Memory,
     /// There are over 999 events.
@@ -19,7 +19,7 @@ pub enum EdlFault {
 }
 
 impl EdlFault {
-    /// The refusal's number: 0 or 35.
+    /// The error's number: 0 or 35.
     pub fn number(&self) -> u8
         ensures { result ≡ number_of self.now }
     {

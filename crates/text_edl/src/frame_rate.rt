@@ -4,20 +4,20 @@ ghost use Rattle.std.specs.Prelude.{◌≡◌, ◌≤◌, ◌<◌, ◌^◌};
 ghost use Rattle.text_edl.specs.Timecode.{frames_in, seconds_in, video_frame, is_exact, counted};
 ghost use Rattle.text_edl.specs.Timecode.{is_drop, dropped_before, shown_number};
 
-/// How many video frames there are in a second.
+/// The number of video frames per second.
 #[derive(Clone, Copy, Debug, PartialEq, Eq)]
 pub enum FrameRate {
     /// 24.
     Film24,
     /// 25.
     Video25,
-    /// 30000/1001, which are 29.97: counted as drop frame.
+    /// 30000/1001, that is 29.97, with drop-frame time codes.
     Drop2997,
     /// 30.
     Whole30,
 }
 
-// How many there are in the seconds of `seconds_in`.
+// The number of video frames in the seconds of `seconds_in`.
 fn frames_in(frame_rate: FrameRate) -> u64
     ensures value { result ≡ frames_in frame_rate }
     ensures small { result ≤ 30000 }
@@ -30,7 +30,7 @@ fn frames_in(frame_rate: FrameRate) -> u64
     }
 }
 
-// In how many seconds.
+// The number of seconds in which there are `frames_in` video frames.
 fn seconds_in(frame_rate: FrameRate) -> u64
     ensures value { result ≡ seconds_in frame_rate }
     ensures some { 1 ≤ result }
@@ -42,7 +42,7 @@ fn seconds_in(frame_rate: FrameRate) -> u64
     }
 }
 
-/// How many a time code counts in a second.
+/// The number of frames that a time code counts per second.
 pub(crate) fn counted(frame_rate: FrameRate) -> u64
     ensures value { result ≡ counted frame_rate }
     ensures some { 24 ≤ result }
@@ -56,7 +56,7 @@ pub(crate) fn counted(frame_rate: FrameRate) -> u64
     }
 }
 
-/// Whether time codes are left out.
+/// Whether the time codes are drop-frame.
 pub(crate) fn is_drop(frame_rate: FrameRate) -> bool
     ensures { result ≡ is_drop frame_rate }
 {
@@ -74,7 +74,7 @@ pub(crate) fn video_frame(frame_rate: FrameRate, rate: u32, position: u64) -> u6
     (2 * (position * frames_in(frame_rate)) + parts) / (2 * parts)
 }
 
-/// Whether a position is that of a video frame.
+/// Whether a position is exactly at a video frame.
 pub(crate) fn is_exact(frame_rate: FrameRate, rate: u32, position: u64) -> bool
     requires rate { 1 ≤ rate }
     requires position { position < 2 ^ 34 }
@@ -83,7 +83,7 @@ pub(crate) fn is_exact(frame_rate: FrameRate, rate: u32, position: u64) -> bool
     position * frames_in(frame_rate) % (u64::from(rate) * seconds_in(frame_rate)) == 0
 }
 
-// How many time codes are left out before a video frame.
+// The number of time codes that are dropped before a video frame.
 fn dropped_before(frame: u64) -> u64
     ensures value { result ≡ dropped_before frame }
     ensures small { result ≤ frame }
@@ -91,7 +91,7 @@ fn dropped_before(frame: u64) -> u64
     18 * (frame / 17982) + 2 * ((frame % 17982).saturating_sub(2) / 1798)
 }
 
-/// The number that is shown of a video frame.
+/// The number of a video frame in its time code, which counts the dropped ones.
 pub(crate) fn shown_number(frame_rate: FrameRate, frame: u64) -> u64
     requires { frame < 2 ^ 52 }
     ensures value { result ≡ shown_number frame_rate frame }

@@ -1,4 +1,4 @@
-//! What is heard of a track as an edit decision list of the form CMX 3600.
+//! The audible parts of a track as an edit decision list in CMX 3600 format.
 //!
 //! ```rust
 //! use mt_op::Digest;
@@ -16,12 +16,12 @@
 //! ";
 //!
 //! fn lists_a_clip(rt: HostRuntime) -> Result<(), Fail> {
-//!     // a clip of three frames, of a recording whose name is known
+//!     // a clip of three frames, of a recording with a known name
 //!     let log = log_of_a_clip(rt.alloc(), 3)?;
 //!     let session = from_scratch(rt.alloc(), &log)?;
 //!     let track = session.tracks.items().first().ok_or("a track")?;
 //!     let names = [Named { source: Digest::of(RECORDING), name: "voice.wav" }];
-//!     // at one frame a second
+//!     // at one frame per second
 //!     let rate = FrameRate::Video25;
 //!     let text = edit_list(rt.alloc(), "Morning", 1, rate, track, &names)?;
 //!     assert!(rt; text.as_slice() == LIST);
@@ -29,8 +29,8 @@
 //! }
 //! ```
 //!
-//! `specs/EditList.antt` is the list, and `specs/Timecode.antt` has its time codes. At 29.97 video
-//! frames a second they count as drop frame.
+//! `specs/EditList.antt` defines the list, and `specs/Timecode.antt` its time codes. At 29.97 video
+//! frames per second the time codes are drop-frame.
 #![tactic(auto)]
 
 mod event;

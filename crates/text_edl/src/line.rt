@@ -17,7 +17,7 @@ use mt_op::Digest;
 use std::alloc::{AllocError, Allocator};
 use text_cues::append_shown;
 
-// The digits of a digest.
+// The hex digits of a digest.
 fn digits_of<A: Allocator>(alloc: A, digest: Digest) -> Result<String<A>, AllocError>
     ensures { IfOk result (λ digits. string_bytes digits ≡ digest_text digest) }
 {
@@ -27,7 +27,7 @@ fn digits_of<A: Allocator>(alloc: A, digest: Digest) -> Result<String<A>, AllocE
     }
 }
 
-// Writes the reel of a recording.
+// Appends the reel of a recording.
 fn append_reel<A: Allocator, B: Allocator>(
     alloc: &A,
     text: &mut Vec<u8, B>,
@@ -40,7 +40,7 @@ fn append_reel<A: Allocator, B: Allocator>(
     text.extend_from_slice(&bytes[..bytes.len().min(8)])
 }
 
-// Writes the time codes of the source and of the record.
+// Appends the time codes of the source and of the record.
 fn append_times<A: Allocator>(
     text: &mut Vec<u8, A>,
     frame_rate: FrameRate,
@@ -64,7 +64,7 @@ fn append_times<A: Allocator>(
     append_timecode(text, frame_rate, end)
 }
 
-// Writes the line of an event of this number.
+// Appends the line of an event of this number.
 fn append_event_line<A: Allocator, B: Allocator>(
     alloc: &A,
     text: &mut Vec<u8, B>,
@@ -87,7 +87,7 @@ fn append_event_line<A: Allocator, B: Allocator>(
     text.extend_from_slice(b"\n")
 }
 
-// Writes the line of an event's digest.
+// Appends the line of an event's digest.
 fn append_digest_line<A: Allocator, B: Allocator>(
     alloc: &A,
     text: &mut Vec<u8, B>,
@@ -101,7 +101,7 @@ fn append_digest_line<A: Allocator, B: Allocator>(
     text.extend_from_slice(b"\n")
 }
 
-// Writes the line of a file's name.
+// Appends the line of a file's name.
 fn append_name<A: Allocator>(text: &mut Vec<u8, A>, name: &str) -> Result<(), AllocError>
     ensures { OnOk result (text.new.items ≡ text.old.items ++ name_line (Some name.now)) }
 {
@@ -110,7 +110,7 @@ fn append_name<A: Allocator>(text: &mut Vec<u8, A>, name: &str) -> Result<(), Al
     text.extend_from_slice(b"\n")
 }
 
-// Writes it where the name is known.
+// Appends the line of a file's name, if the name is known.
 fn append_name_line<A: Allocator>(
     text: &mut Vec<u8, A>,
     name: Option<&str>,
@@ -124,7 +124,7 @@ fn append_name_line<A: Allocator>(
     }
 }
 
-// Whether no time code of an event is rounded.
+// Whether all time codes of an event are exact.
 fn is_sharp(frame_rate: FrameRate, rate: u32, event: &Event) -> bool
     requires rate { 1 ≤ rate }
     requires small { IsSmall event.now }
@@ -135,7 +135,7 @@ fn is_sharp(frame_rate: FrameRate, rate: u32, event: &Event) -> bool
         && is_exact(frame_rate, rate, event.end)
 }
 
-// Writes a position and another.
+// Appends two positions.
 fn append_positions<A: Allocator>(
     text: &mut Vec<u8, A>,
     from: u64,
@@ -148,7 +148,7 @@ fn append_positions<A: Allocator>(
     append_decimal(text, to)
 }
 
-// Writes the line of an event's positions.
+// Appends the line of an event's positions.
 fn append_rounded_line<A: Allocator>(
     text: &mut Vec<u8, A>,
     rate: u32,
@@ -167,7 +167,7 @@ fn append_rounded_line<A: Allocator>(
     text.extend_from_slice(b"\n")
 }
 
-// Writes it where a time code is rounded.
+// Appends the line of an event's positions, if a time code is rounded.
 fn append_note<A: Allocator>(
     text: &mut Vec<u8, A>,
     frame_rate: FrameRate,
@@ -184,7 +184,7 @@ fn append_note<A: Allocator>(
     append_rounded_line(text, rate, event)
 }
 
-/// Writes the lines of an event of this number.
+/// Appends the lines of an event of this number.
 pub(crate) fn append_event<A: Allocator, B: Allocator>(
     alloc: &A,
     text: &mut Vec<u8, B>,

@@ -14,10 +14,10 @@ use mt_sessionview::TrackView;
 use std::alloc::{AllocError, Allocator};
 use text_cues::append_shown;
 
-/// The most events that a list has.
+/// The greatest number of events in a list.
 const MOST_EVENTS: usize = 999;
 
-// Writes how time codes count.
+// Appends the line of the time code's mode.
 fn append_mode<A: Allocator>(text: &mut Vec<u8, A>, frame_rate: FrameRate) -> Result<(), AllocError>
     ensures { OnOk result (text.new.items ≡ text.old.items ++ mode_line frame_rate) }
 {
@@ -28,7 +28,7 @@ fn append_mode<A: Allocator>(text: &mut Vec<u8, A>, frame_rate: FrameRate) -> Re
     }
 }
 
-// Writes the lines that a list begins with.
+// Appends the first lines of a list.
 fn append_head<A: Allocator>(
     text: &mut Vec<u8, A>,
     title: &str,
@@ -43,7 +43,7 @@ fn append_head<A: Allocator>(
     text.extend_from_slice(b"\n")
 }
 
-// Writes the lines of events.
+// Appends the lines of events.
 fn append_events<A: Allocator, B: Allocator>(
     alloc: &A,
     text: &mut Vec<u8, B>,
@@ -86,15 +86,16 @@ fn listed<A: Allocator + Clone>(
     Ok(text)
 }
 
-/// What is heard of a track as an edit decision list of the form CMX 3600: `TITLE:`, `FCM:`, an
+/// The audible parts of a track as an edit decision list in CMX 3600 format: `TITLE:`, `FCM:`, an
 /// empty line, and for each segment in which one of its clips sounds `NNN  REEL     A     C` and
-/// the time codes of source and record, each from the first frame to the one behind the last;
-/// `* DIGEST:`; `* FROM CLIP NAME:` where the file's name is among `names`; and `* ROUNDED:` with
-/// the positions in frames at the rate, 1 and more, where one is none of a video frame. REEL is the
-/// first eight digits of the recording's digest. A time code is of the nearest video frame, the
-/// later of two as near. A muted track has no event.
+/// the time codes of source and record, each from the first frame to the one after the last;
+/// `* DIGEST:`; `* FROM CLIP NAME:` if `names` has the file's name; and `* ROUNDED:` with the
+/// positions in frames at the rate, at least 1, if one is not exactly at a video frame. REEL is the
+/// first eight digits of the recording's digest. A time code is that of the nearest video frame, of
+/// two equally near ones the later. A muted track has no event.
 ///
-/// `TooManyEvents` (35) where there are over 999; `Memory` (0) where memory ran out.
+/// Fails with `TooManyEvents` (35) if there are over 999, and with `Memory` (0) when an allocation
+/// fails.
 pub fn edit_list<A: Allocator + Clone, B: Allocator>(
     alloc: A,
     title: &str,

@@ -16,7 +16,7 @@ fn digit(number: u64) -> u8
     b'0' + number as u8
 }
 
-// Writes a number under a hundred as two digits.
+// Appends a number under a hundred as two digits.
 fn append_two<A: Allocator>(text: &mut Vec<u8, A>, number: u64) -> Result<(), AllocError>
     requires { number < 100 }
     ensures { OnOk result (text.new.items ≡ text.old.items ++ two_digits number) }
@@ -24,7 +24,7 @@ fn append_two<A: Allocator>(text: &mut Vec<u8, A>, number: u64) -> Result<(), Al
     text.extend_from_slice(&[digit(number / 10), digit(number % 10)])
 }
 
-/// Writes a number under a thousand as three digits.
+/// Appends a number under a thousand as three digits.
 pub(crate) fn append_three<A: Allocator>(
     text: &mut Vec<u8, A>,
     number: u64,
@@ -36,7 +36,7 @@ pub(crate) fn append_three<A: Allocator>(
     text.extend_from_slice(&[digit(number / 100), digit(rest / 10), digit(rest % 10)])
 }
 
-// Writes hours as two digits or more.
+// Appends hours as two or more digits.
 fn append_hours<A: Allocator>(text: &mut Vec<u8, A>, hours: u64) -> Result<(), AllocError>
     ensures { OnOk result (text.new.items ≡ text.old.items ++ hours_text hours) }
 {
@@ -46,14 +46,14 @@ fn append_hours<A: Allocator>(text: &mut Vec<u8, A>, hours: u64) -> Result<(), A
     append_decimal(text, hours)
 }
 
-// What precedes the frames.
+// The sign before the frames.
 fn sign(frame_rate: FrameRate) -> u8
     ensures { result ≡ sign frame_rate }
 {
     if is_drop(frame_rate) { b';' } else { b':' }
 }
 
-// Writes `HH:MM:SS:FF` of a number that is shown.
+// Appends `HH:MM:SS:FF` for the number of a frame.
 fn append_number<A: Allocator>(
     text: &mut Vec<u8, A>,
     frame_rate: FrameRate,
@@ -71,7 +71,7 @@ fn append_number<A: Allocator>(
     append_two(text, number % counted)
 }
 
-/// Writes the time code of a video frame.
+/// Appends the time code of a video frame.
 pub(crate) fn append_timecode<A: Allocator>(
     text: &mut Vec<u8, A>,
     frame_rate: FrameRate,

@@ -1,4 +1,4 @@
--- Seconds, labels and scripts: what the definitions compute.
+-- Worked examples of seconds, labels and scripts.
 use Rattle.std.specs.Prelude.{◌≡◌, [], Some, None, Ok, Err, refl, codes, true}
 use Rattle.std.specs.Fmt.{digits}
 use Rattle.std.specs.Str.{chars, is_utf8}
@@ -10,7 +10,7 @@ use Rattle.text_labels.specs.Reading.{label_of, labelled, label_lines, label_scr
 
 -- ---- seconds
 
--- half a microsecond more is one more
+-- half a microsecond is rounded up
 pub rounded_half_up : seconds_text 128 1 ≡ codes "0.007813"
 unfolding digits
 rounded_half_up = refl
@@ -27,7 +27,7 @@ pub back_again : frame_of 48000 (codes "0.000021") ≡ Some 1
 unfolding seconds
 back_again = refl
 
--- half a frame is the later one, with however many digits
+-- half a frame is rounded to the later one, with any number of digits
 pub half_a_frame : frame_of 1 (codes "2.50000000000000000000") ≡ Some 3
 unfolding seconds
 half_a_frame = refl
@@ -68,7 +68,7 @@ pub a_label : label_of 10 (codes "1.0\t2.5\tNews")
 unfolding label_of label_from label_between seconds is_utf8 chars encode
 a_label = refl
 
--- a label that is missing is the empty title
+-- a missing title is read as the empty title
 pub untitled : label_of 10 (codes "1.0\t1.0") ≡ Some (record { at = 10; len = 0; title = [] })
 unfolding label_of label_from label_between seconds is_utf8 chars encode
 untitled = refl
@@ -77,7 +77,7 @@ pub backwards : label_of 10 (codes "2.0\t1.0\tNews") ≡ None
 unfolding label_of label_from label_between seconds is_utf8 chars encode
 backwards = refl
 
--- a title may not hold a tab
+-- a title cannot have a tab
 pub four_fields : label_of 10 (codes "1.0\t2.0\tNews\tat 9") ≡ None
 unfolding label_of label_from label_between seconds is_utf8 chars encode
 four_fields = refl
@@ -89,7 +89,7 @@ pub two_labels : label_script 10 3 (codes "1\t2\r\n\n2\t2\t\n")
 unfolding label_lines labelled label_of label_from label_between seconds is_utf8 chars digits
 two_labels = refl
 
--- blank lines are counted
+-- blank lines count
 pub bad_line : label_script 10 3 (codes "1\t2\tA\n\nB\n") ≡ Err (BadLine 3)
 unfolding label_lines labelled label_of label_from label_between seconds is_utf8 chars encode
 bad_line = refl

@@ -1,4 +1,4 @@
--- The number of each refusal.
+-- The number of each error.
 use Rattle.std.specs.Prelude.{ℕ}
 use Rattle.text_labels.specs.declared.fault.LabelsFault.{LabelsFault}
 use Rattle.text_labels.specs.declared.fault.LabelsFault.TheVariants.{Memory, BadLine, TooManyLines}

@@ -23,7 +23,7 @@ space = 32
 abbrev pub backslash : ℕ
 backslash = 92
 
--- a line without the carriage return that may end it
+-- a line without the carriage return at its end, if it has one
 abbrev pub unreturned : List ℕ → List ℕ
 unreturned line =
     if slice_index line (length line - 1) == carriage_return then take (length line - 1) line
@@ -36,18 +36,19 @@ is_blank line = list_all (λ b. (b == space) || (b == tab)) line
 abbrev pub is_passed_over : List ℕ → Bool
 is_passed_over line = is_blank line || (slice_index line 0 == backslash)
 
--- what a label says: a position, a length and a title
+-- the parts of a label: a position, a length and a title
 pub record LabelText : Type 0 where
   pub at : ℕ
   pub len : ℕ
   pub title : List ℕ
 
--- END and TITLE, where what follows START is cut at its first tab: with none the title is empty
+-- END and TITLE, when the text after START is cut at its first tab; without a tab the title is
+-- empty
 abbrev pub end_and_title : List ℕ → Option (List ℕ × List ℕ) → List ℕ × List ℕ
 end_and_title rest None = (rest, [])
 end_and_title rest (Some parts) = parts
 
--- A label from START to END: END is not before START, and TITLE is a title.
+-- A label from START to END, if END is not before START, and TITLE is a title.
 unfoldable pub label_between : ℕ → ℕ → List ℕ → Option LabelText
 label_between at end title =
     if nat_le at end && is_title title
@@ -66,8 +67,8 @@ label_of rate line = do
 
 -- ---- the lines of a script
 
--- what the line of this number comes to, where its first line has a number in the script: no label
--- is a bad line
+-- the result for the line of this number, with the number of its first line in the script: a line
+-- without a label is a bad line
 unfoldable pub labelled : ℕ → ℕ → Option LabelText → Result LinesText LabelsFault
 labelled number line None = Err (BadLine number)
 labelled number line (Some m) =
@@ -82,19 +83,19 @@ label_lines rate number line label =
     if is_passed_over label then Ok (record { text = []; next = line })
     else labelled number line (label_of rate label)
 
--- a text before what is made
+-- a text in front of a result
 abbrev pub before : List ℕ → Result (List ℕ) LabelsFault → Result (List ℕ) LabelsFault
 before text (Ok more) = Ok (text ++ more)
 before text (Err fault) = Err fault
 
--- lines, and those that follow from the next number on
+-- the text of some lines, followed by the lines made from the next number on
 abbrev pub and_then : Result LinesText LabelsFault → (ℕ → Result (List ℕ) LabelsFault)
     → Result (List ℕ) LabelsFault
 and_then (Ok made) rest = before made.text (rest made.next)
 and_then (Err fault) rest = Err fault
 
 -- The lines of a script for lines of a label track, of which the first has this number there, or
--- why the first bad one is bad.
+-- the error of the first bad line.
 abbrev pub script_from : ℕ → ℕ → ℕ → List (List ℕ) → Result (List ℕ) LabelsFault
 script_from rate number line [] = Ok []
 script_from rate number line (label ∷ labels) =
@@ -105,7 +106,7 @@ script_from rate number line (label ∷ labels) =
 abbrev pub label_script : ℕ → ℕ → List ℕ → Result (List ℕ) LabelsFault
 label_script rate line track = script_from rate 1 line (lines track)
 
--- what a refusal says of what was to be made
+-- whether an error is the cause why nothing was made; out of memory may always be
 abbrev pub IsCause : {X : Type 0} → Result X LabelsFault → LabelsFault → Type 0
 IsCause made Memory = Unit {0}
 IsCause made (BadLine number) = made ≡ Err (BadLine number)

@@ -1,5 +1,5 @@
--- Seconds in a label track (Audacity manual, "Importing and Exporting Labels"), and the frames that
--- they are at a rate (profile).
+-- Seconds in a label track (Audacity manual, "Importing and Exporting Labels"), and their frames at
+-- a rate (profile).
 use Rattle.std.specs.Prelude.{ℕ, ◌+◌, ◌*◌, ◌/◌, ◌%◌, ◌^◌, nat_lt, List, length, ◌++◌, codes}
 use Rattle.std.specs.Prelude.{Option, Some, None}
 use Rattle.std.specs.Fmt.{decimal}
@@ -7,9 +7,10 @@ use Rattle.base_times.specs.Printing.{three_digits}
 use Rattle.base_text.specs.Cutting.{◌>>=◌, cut}
 use Rattle.base_times.specs.Words.{point, number, passing}
 
--- ---- printed
+-- ---- printing
 
--- how long frames last at a rate, in microseconds: the nearest number, the greater of two as near
+-- the duration of frames at a rate, in microseconds: the nearest number, and of two equally near
+-- ones the greater
 abbrev pub micros : ℕ → ℕ → ℕ
 micros rate frames = (2 * (frames * 1000000) + rate) / (2 * rate)
 
@@ -25,37 +26,37 @@ seconds_text rate frames = micros_text (micros rate frames)
 
 -- ---- times
 
--- so many of the parts of which so many make a second
+-- a time: a count of parts, and the number of parts per second
 pub record Time : Type 0 where
   pub count : ℕ
   pub per_second : ℕ
 
--- so many whole seconds
+-- this many whole seconds
 abbrev pub whole_time : ℕ → Time
 whole_time seconds = record { count = seconds; per_second = 1 }
 
--- so many seconds later
+-- a time this many seconds later
 abbrev pub later : ℕ → Time → Time
 later seconds t = record {
   count = seconds * t.per_second + t.count;
   per_second = t.per_second;
 }
 
--- the frame nearest to a time at a rate, the later one of two as near
+-- the frame nearest to a time at a rate; of two equally near ones the later
 abbrev pub nearest_frame : ℕ → Time → ℕ
 nearest_frame rate t = (2 * (t.count * rate) + t.per_second) / (2 * t.per_second)
 
--- that frame, where it is under 2^32
+-- that frame, if it is under 2^32
 abbrev pub frame : ℕ → Time → Option ℕ
 frame rate t = passing (λ n. nat_lt n (2 ^ 32)) (nearest_frame rate t)
 
--- ---- read
+-- ---- reading
 
--- what follows a point: one digit or more, the first of them tenths of a second
+-- the text after a point: one or more digits, the first of them tenths of a second
 abbrev pub parts : List ℕ → Option Time
 parts text = number text >>= λ n. Some (record { count = n; per_second = 10 ^ length text })
 
--- one digit or more, and perhaps a point and parts, of a text that is cut at its point
+-- one or more digits, and optionally a point and parts, of a text that is cut at its point
 abbrev pub seconds_at : List ℕ → Option (List ℕ × List ℕ) → Option Time
 seconds_at text None = number text >>= λ n. Some (whole_time n)
 seconds_at text (Some at) = do
@@ -63,10 +64,10 @@ seconds_at text (Some at) = do
   t ← parts at.1
   Some (later n t)
 
--- the same of a text
+-- one or more digits, and optionally a point and parts, of a text
 unfoldable pub seconds : List ℕ → Option Time
 seconds text = seconds_at text (cut point text)
 
--- the frame of what a text says
+-- the frame of a text in seconds
 abbrev pub frame_of : ℕ → List ℕ → Option ℕ
 frame_of rate text = seconds text >>= frame rate

@@ -1,4 +1,4 @@
-//! Why a label track is not read.
+//! The errors of a label track.
 
 ghost use Rattle.std.specs.Prelude.{◌≡◌};
 ghost use Rattle.text_labels.specs.Faults.{number_of};
@@ -7,22 +7,22 @@ ghost use Rattle.text_labels.specs.declared.fault.LabelsFault.TheVariants.{Memor
 use std::alloc::{AllocError, AllocFailed};
 use thiserror::Error;
 
-/// Why a label track is not read. Each refusal has a number that never changes.
+/// Why a label track cannot be read. Each error has a number that never changes.
 #[derive(Clone, Copy, Debug, PartialEq, Eq, Error)]
 pub enum LabelsFault {
-    /// Memory ran out.
+    /// An allocation failed.
     #[error("out of memory")]
     Memory,
     /// The line of this number, counted from 1, is no label.
     #[error("line {0} is no label")]
     BadLine(usize),
-    /// A line of the script would have a number over 4,294,967,295.
+    /// A line of the script has a number over 4,294,967,295.
     #[error("too many lines")]
     TooManyLines,
 }
 
 impl LabelsFault {
-    /// The refusal's number: 0, 35 or 41.
+    /// The error's number: 0, 35 or 41.
     pub fn number(&self) -> u8
         ensures { result ≡ number_of self.now }
     {

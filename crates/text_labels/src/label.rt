@@ -15,18 +15,18 @@ use crate::seconds::frame_of_seconds;
 use base_text::cut;
 use std::str;
 
-/// What a label says.
+/// The parts of a label.
 #[derive(Clone, Copy)]
 pub(crate) struct Label<'a> {
-    /// Where it starts, in frames.
+    /// Its first frame.
     pub(crate) at: u32,
-    /// How many frames it spans.
+    /// The number of frames that it spans.
     pub(crate) len: u32,
     /// Its title.
     pub(crate) title: &'a [u8],
 }
 
-/// A line without the carriage return that may end it.
+/// A line without the carriage return at its end, if it has one.
 pub(crate) fn unreturned(line: &[u8]) -> &[u8]
     ensures { result.now ≡ unreturned line.now }
 {
@@ -63,7 +63,7 @@ fn is_plain(byte: u8) -> bool
     byte >= 32 && byte != 127
 }
 
-// Whether each byte may be.
+// Whether each byte may be in a title.
 fn all_plain(text: &[u8]) -> bool
     ensures { result ≡ list_all is_plain text.now }
 {
@@ -84,7 +84,7 @@ fn is_title(bytes: &[u8]) -> bool
     is_text(bytes) && bytes.len() <= 255 && all_plain(bytes)
 }
 
-// The end of a label and its title, which may be missing.
+// The end of a label and its title, which is empty if it is missing.
 fn end_and_title(rest: &[u8]) -> (&[u8], &[u8])
     ensures end { result.0.now ≡ (end_and_title rest.now (cut tab rest.now)).0 }
     ensures title { result.1.now ≡ (end_and_title rest.now (cut tab rest.now)).1 }
@@ -95,7 +95,7 @@ fn end_and_title(rest: &[u8]) -> (&[u8], &[u8])
     }
 }
 
-// The label from one frame to another, if it is one.
+// The label from one frame to another, unless it is invalid.
 #[tactic(auto, unfolding(crate::specs::Reading::label_between))]
 fn label_between(at: u32, end: u32, title: &[u8]) -> Option<Label<'_>>
     ensures { option_map label_text result ≡ label_between at end title.now }
@@ -110,7 +110,7 @@ fn label_between(at: u32, end: u32, title: &[u8]) -> Option<Label<'_>>
     })
 }
 
-// The label that starts at a frame and has this end and this title, if it is one.
+// The label with this first frame, end and title, unless it is invalid.
 #[tactic(auto, unfolding(crate::specs::Reading::label_from))]
 fn label_from<'a>(rate: u32, at: u32, end: &[u8], title: &'a [u8]) -> Option<Label<'a>>
     requires { 1 ≤ rate }

@@ -1,13 +1,13 @@
-//! What holds of label tracks and of refusals: each law is the contract of a small function, which
-//! does nothing or only compares.
+//! Laws of label tracks and of their errors: each law is the contract of a small function whose
+//! body is empty or a comparison.
 
 ghost use Rattle.std.specs.Prelude.{◌≡◌, ◌↔◌, IsTrue};
 ghost use Rattle.text_labels.specs.Laws.{FramesSurvive, MarkersSurvive};
 
 use crate::fault::LabelsFault;
 
-/// At a rate under a million every frame, up to 24 hours at 48,000 and further, is read again from
-/// the seconds with six decimals that are printed of it.
+/// At a rate under a million every frame, up to 24 hours at 48,000 and further, is read back from
+/// its printed seconds with six decimals.
 pub fn frames_survive()
     ensures { FramesSurvive }
 {}
@@ -18,7 +18,7 @@ pub fn markers_survive()
     ensures { MarkersSurvive }
 {}
 
-/// Refusals are equal where they are of one case and name the same line.
+/// Errors are equal if they are the same variant and name the same line.
 pub fn equal_labels_faults(fault: &LabelsFault, other: &LabelsFault) -> bool
     ensures { IsTrue result ↔ (fault.now ≡ other.now) }
 {

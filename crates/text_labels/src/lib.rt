@@ -20,7 +20,7 @@
 //!     let session = from_scratch(rt.alloc(), &log)?;
 //!     let track = label_track(rt.alloc(), 48000, session.markers.items())?;
 //!     assert!(rt; track.as_slice() == TRACK);
-//!     // the first line of the script is its line 1
+//!     // the first line of the script has the number 1
 //!     let script = label_script(rt.alloc(), 48000, 1, &track)?;
 //!     assert!(rt; script.as_slice() == SCRIPT);
 //!     Ok(())
@@ -30,7 +30,7 @@
 //!     let script = label_script(rt.alloc(), 1000, 7, b"1.5\t2\tA\r\n\\\t80\t90\n3\t3\n")?;
 //!     let lines = b"add-marker 1500 A\nmarker-length $7 500\nadd-marker 3000 \n";
 //!     assert!(rt; script.as_slice() == lines.as_slice());
-//!     // half a frame is the later one
+//!     // half a frame is rounded to the later one
 //!     assert!(rt; frame_of_seconds(1, b"2.500000") == Some(3));
 //!     // a label does not end before it starts
 //!     let fault = label_script(rt.alloc(), 1000, 1, b"\n2\t1\tA\n").err();
@@ -39,9 +39,9 @@
 //! }
 //! ```
 //!
-//! `specs/Seconds.antt` says how seconds are printed and read, `specs/Labels.antt` is the track of
-//! markers, and `specs/Reading.antt` the script of a track. The laws say that a frame, and a track,
-//! is read as it was.
+//! `specs/Seconds.antt` defines how seconds are printed and read, `specs/Labels.antt` the track of
+//! markers, and `specs/Reading.antt` the script of a track. The laws state that a printed frame,
+//! and a printed track, is read back unchanged.
 #![tactic(auto)]
 
 mod fault;

@@ -10,8 +10,8 @@ use base_text::cut_line;
 use std::alloc::Allocator;
 use text_cues::{append_marker, marker_line_count};
 
-// Writes the lines of the label of a line of this number, and returns the next line's number in the
-// script.
+// Appends the lines of the label of the line with this number, and returns the number of the next
+// line in the script.
 #[tactic(auto, unfolding(crate::specs::Reading::labelled))]
 fn append_labelled<A: Allocator>(
     text: &mut Vec<u8, A>,
@@ -35,7 +35,8 @@ fn append_labelled<A: Allocator>(
     Ok(line + marker_line_count(label.len))
 }
 
-// The same of a line that may have no label.
+// Appends the lines of the line with this number, which may have no label, and returns the number
+// of the next line in the script.
 #[tactic(auto, unfolding(crate::specs::Reading::label_lines))]
 fn append_label<A: Allocator>(
     text: &mut Vec<u8, A>,
@@ -55,14 +56,14 @@ fn append_label<A: Allocator>(
     append_labelled(text, rate, number, line, label)
 }
 
-/// The script that adds a marker for each label of an Audacity label track, at a rate of 1 and
-/// more: `add-marker AT TITLE`, and `marker-length $LINE LEN` of a label that ends later than it
-/// starts. Its first line has the number `line` in the whole script. A line of the track is
+/// The script that adds a marker for each label of an Audacity label track, at a rate of at least
+/// 1: `add-marker AT TITLE`, and `marker-length $LINE LEN` if the label's length is not 0. Its
+/// first line has the number `line` in the whole script. A line of the track is
 /// `START TAB END TAB TITLE` or `START TAB END`, ended by LF or CR LF; blank lines and those that
-/// begin with `\` are passed over and counted. At the first line at fault `BadLine` (41) with its
-/// number, from 1 on, where START or END is none that `frame_of_seconds` reads, END is before
-/// START, or TITLE is no title; `TooManyLines` (35) where its first line would have a number over
-/// 4,294,967,295. `Memory` (0) where memory ran out.
+/// begin with `\` are skipped, but counted. Fails at the first line at fault: with `BadLine` (41)
+/// and its number, from 1 on, if `frame_of_seconds` cannot read START or END, END is before START,
+/// or TITLE is no title; with `TooManyLines` (35) if its first line has a number over
+/// 4,294,967,295. Fails with `Memory` (0) when an allocation fails.
 pub fn label_script<A: Allocator>(
     alloc: A,
     rate: u32,

@@ -8,7 +8,7 @@ use crate::word::{capped_number_of, part_of};
 use base_text::{append_decimal, cut};
 use std::alloc::{AllocError, Allocator};
 
-// How long frames last at a rate, in microseconds.
+// The duration of frames at a rate, in microseconds.
 fn micros(rate: u32, frames: u64) -> u64
     requires rate { 1 ≤ rate }
     requires frames { frames < 2 ^ 33 }
@@ -43,9 +43,9 @@ fn six_digits(number: u64) -> [u8; 6]
     ]
 }
 
-/// Writes how long frames, fewer than 2^33, last at a rate of 1 and more, in seconds with six
-/// decimals: the nearest number, the greater of two as near. Where memory runs out, `text` has an
-/// unknown part of it.
+/// Appends the duration of frames, fewer than 2^33, at a rate of at least 1, in seconds with six
+/// decimals: the nearest number, and of two equally near ones the greater. If an allocation fails,
+/// an unspecified part of it is appended.
 pub fn append_seconds<A: Allocator>(
     text: &mut Vec<u8, A>,
     rate: u32,
@@ -61,7 +61,7 @@ pub fn append_seconds<A: Allocator>(
     text.extend_from_slice(&six_digits(micros % 1_000_000))
 }
 
-// The frame of whole seconds and twice the frames of the rest, rounded down.
+// The frame from whole seconds and twice the frames of the rest, rounded down.
 fn frame_by(rate: u32, whole: u64, part: u64) -> Option<u32>
     requires whole { whole ≤ 2 ^ 32 }
     requires part { part ≤ 2 ^ 33 }
@@ -95,9 +95,9 @@ fn frame_by_parts(rate: u32, whole: &[u8], part: &[u8]) -> Option<u32>
     frame_by(rate, whole, part)
 }
 
-/// The frame nearest to a number of seconds at a rate of 1 and more, the later of two as near. The
-/// text is one digit or more, and perhaps a point and one digit or more. None where it is not, or
-/// where the frame is over 4,294,967,295.
+/// The frame nearest to a number of seconds at a rate of at least 1; of two equally near ones the
+/// later. The text is one or more digits, optionally followed by a point and one or more digits.
+/// None if it is not, or if the frame is over 4,294,967,295.
 pub fn frame_of_seconds(rate: u32, text: &[u8]) -> Option<u32>
     requires { 1 ≤ rate }
     ensures { result ≡ frame_of rate text.now }

@@ -7,7 +7,7 @@ use crate::seconds::append_seconds;
 use mt_sessionview::MarkerView;
 use std::alloc::{AllocError, Allocator};
 
-// Writes the line of a marker.
+// Appends the line of a marker.
 fn append_line<A: Allocator, B: Allocator>(
     text: &mut Vec<u8, A>,
     rate: u32,
@@ -24,9 +24,9 @@ fn append_line<A: Allocator, B: Allocator>(
     text.extend_from_slice(b"\n")
 }
 
-/// Markers, in their order, as an Audacity label track: `START TAB END TAB TITLE` and a line feed
-/// for each. START and END are seconds with six decimals at a rate of 1 and more, rounded half up;
-/// a marker of length 0 ends where it starts. An error where memory ran out.
+/// Markers, in the same order, as an Audacity label track: `START TAB END TAB TITLE` and a line
+/// feed for each. START and END are seconds with six decimals at a rate of at least 1, rounded half
+/// up; a marker of length 0 ends where it starts. An error when an allocation fails.
 pub fn label_track<A: Allocator, B: Allocator>(
     alloc: A,
     rate: u32,

@@ -8,7 +8,7 @@ ghost use Rattle.text_labels.specs.Steps.{capped, part_of};
 
 use base_text::are_digits;
 
-// What a digit stands for.
+// The value of a digit.
 fn value_of(digit: u8) -> u64
     ensures value { is_ascii_digit digit ≡ true → result ≡ digit_value digit }
     ensures small { result < 10 }
@@ -20,7 +20,7 @@ fn value_of(digit: u8) -> u64
     }
 }
 
-// The number that digits spell, or 2^32 where it is more.
+// The number with these digits, or 2^32 if it is more.
 fn capped_value(digits: &[u8]) -> u64
     requires { list_all is_ascii_digit digits.now ≡ true }
     ensures value { result ≡ min (digits_value 10 digits.now) (2 ^ 32) }
@@ -33,7 +33,7 @@ fn capped_value(digits: &[u8]) -> u64
     value
 }
 
-/// The number that a text spells in digits, or 2^32 where it is more.
+/// The number of a text of digits, or 2^32 if it is more.
 pub(crate) fn capped_number_of(text: &[u8]) -> Option<u64>
     ensures value { result ≡ capped text.now }
     ensures small { IfSome result (λ n. n ≤ 2 ^ 32) }
@@ -44,7 +44,7 @@ pub(crate) fn capped_number_of(text: &[u8]) -> Option<u64>
     Some(capped_value(text))
 }
 
-// So many times the fraction of one that these digits spell after a point, rounded down.
+// This number times the fraction of one with these digits after its point, rounded down.
 fn part_value(most: u64, digits: &[u8]) -> u64
     requires most { most ≤ 2 ^ 33 }
     requires digits { list_all is_ascii_digit digits.now ≡ true }
@@ -59,7 +59,7 @@ fn part_value(most: u64, digits: &[u8]) -> u64
     part
 }
 
-/// So many times the fraction of one that a text spells in digits after a point, rounded down.
+/// This number times the fraction of one with the digits of a text after its point, rounded down.
 pub(crate) fn part_of(most: u64, text: &[u8]) -> Option<u64>
     requires { most ≤ 2 ^ 33 }
     ensures value { result ≡ part_of most text.now }
