@@ -41,7 +41,7 @@ fn next_probe(low: usize, high: usize, guess: Option<usize>) -> usize
 ///
 /// Allocates nothing. Bisects the slice until it meets an operation of the dot's replica, and then
 /// looks where the dot is if that replica's numbers have no gap. It compares at most twice as many
-/// dots as bisection alone would, and only a few where the numbers have no gap and there are few
+/// dots as the length can be halved, and only a few where the numbers have no gap and there are few
 /// replicas.
 pub fn find_op<A: Allocator>(ops: &[Op<A>], dot: Dot) -> Result<usize, usize>
     requires { IsTrue (dots_rise ops.now) }
