@@ -26,6 +26,7 @@
 //!     Ok(())
 //! }
 //! ```
+//!
 //! `HoldBack` takes one item at a time and releases exactly those that became ready by it, by
 //! rising key. `Waits` is the trait of items that wait; operations implement it. `laws` has the
 //! laws of every list of such items: which are ready, that more items never make a ready one wait,

@@ -31,6 +31,7 @@
 //!     Ok(())
 //! }
 //! ```
+//!
 //! Two logs *agree* if no dot names different operations in them, and otherwise they *conflict* at
 //! such a dot (`Log::conflict`, `Log::has_another`). `Log::join` makes the *union* of two logs that
 //! agree and takes them by value; `Log::merge` copies both. `Log::join_all` joins any number of

@@ -30,6 +30,7 @@
 //!     Ok(())
 //! }
 //! ```
+//!
 //! The first allocator is for what is returned, the second for the bytes of a frame that is not yet
 //! whole. `feed` fails with a length over 8,388,608 bytes (40), a body that is not a message (38),
 //! a message that is not due (39), a conflict (17), a holder that has failed (20) and out of memory
