@@ -68,7 +68,7 @@ impl FrameFault {
 pub struct Body {
     /// The bytes of the body.
     pub bytes: BytesMut,
-    /// Whether the frame is followed by no further byte.
+    /// Whether no further byte follows the frame.
     pub is_last: bool,
 }
 

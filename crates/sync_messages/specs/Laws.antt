@@ -47,7 +47,7 @@ AreGreedy [] = Unit {0}
 AreGreedy (pack ∷ packs) = HadNoRoom pack packs × AreGreedy packs
 
 -- Operations are cut into messages from the left: concatenated they are the list, none is empty,
--- each fits a frame, and each is full: the next operation would not have fit.
+-- each fits a frame, and the first operation of the next message would not have fit.
 pub record ArePacks (ops : List Op) : Type 0 where
   pub whole : flat_map (λ pack. pack) (packs ops) ≡ ops
   pub some : AllByRecursion (λ pack. 0 < length pack) (packs ops)

@@ -32,7 +32,7 @@ pub fn texts()
 {}
 
 /// Operations are cut into messages from the left: concatenated they are the list, none is empty,
-/// each fits a frame, and each is full: the next operation would not have fit.
+/// each fits a frame, and the first operation of the next message would not have fit.
 pub fn packs()
     ensures { PacksAreGreedy }
 {}
