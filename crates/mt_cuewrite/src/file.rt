@@ -1,4 +1,4 @@
-//! The file.
+//! Writing the file.
 
 ghost use Rattle.std.specs.Prelude.{◌≡◌, ◌+◌, ◌*◌, ◌^◌, ◌<◌, ◌≤◌, true, false, length, IfErr, OnOk};
 ghost use Rattle.std.specs.Prelude.{codes};

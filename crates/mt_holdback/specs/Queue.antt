@@ -118,7 +118,7 @@ module _ {T R : Type 0} (rules : Rules T R) where
   pub record MayOffer (contents : Contents T) (t : T) (is_met : Bool) : Type 0 where
     -- Its key is new.
     pub unknown : knows rules contents (rules.key t) ≡ false
-    -- If its needs are said to be met, they are.
+    -- If `is_met`, its needs are met.
     pub told : IsTrue is_met → is_met_by rules contents.released t ≡ true
 
   -- One more item was released, or put into the queue.

@@ -1,4 +1,4 @@
--- Codes of stamps' operations and their parts, by which a finite map compares its values.
+-- Codes of operations and of their parts, which distinguish values in a finite map.
 use Rattle.std.specs.Prelude.{◌≡◌, ℕ, Bool, List, Option, ◌⊎◌, refl}
 use Rattle.std.specs.Coded.{Coded, code_by, coded×, coded⊎, coded_ℕ, coded_bool, coded_list}
 use Rattle.std.specs.Coded.{coded_option}

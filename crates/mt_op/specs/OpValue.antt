@@ -1,6 +1,6 @@
--- The value of an operation, without where its texts are in memory. The table of acts is spread
--- over four files: the fields are here; needs, roles and the tags given are in Needs; what an act
--- writes is in Writes; the tags that it removes are in Presence.
+-- The value of an operation, independent of where its texts are in memory. The table of acts is
+-- spread over four files: the fields are here; needs, roles and the tags given are in Needs; what
+-- an act writes is in Writes; the tags that it removes are in Presence.
 use Rattle.std.specs.Prelude.{ℕ, Bool, List, Option}
 use Rattle.mt_stamp.specs.StampOrder.{Stamp}
 use Rattle.mt_op.specs.Gain.{Gain}

@@ -1,4 +1,4 @@
--- Which bytes are titles (profile).
+-- The bytes of titles (profile).
 use Rattle.std.specs.Prelude.{ℕ, Bool, not, List, length, nat_le, ◌==◌, ◌&&◌}
 use Rattle.std.specs.List.{list_all}
 use Rattle.std.specs.Str.{is_utf8}

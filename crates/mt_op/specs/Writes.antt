@@ -21,17 +21,17 @@ pub data Value : Type 0 where
   Mute : Bool → Value
   -- the place that a track is put after, none for the head
   TrackPlace : Option Stamp → Value
-  -- the track that a clip is on, and at which frame of the session
+  -- the track of a clip, and the frame of the session at which it begins
   ClipPlace : Placement → Value
-  -- the first frame of the recording that a clip plays, and how many it plays
+  -- the first frame of the recording that a clip plays, and the number of frames
   Trim : TrimRange → Value
   -- the recording that a clip plays
   Source : Digest → Value
   -- the frame of the session at which a marker is
   Position : ℕ → Value
-  -- over how many frames a clip fades in and out
+  -- the lengths of a clip's fade-in and fade-out in frames
   Fades : FadeLengths → Value
-  -- how many frames a marker spans, 0 for a point
+  -- the length of a marker in frames, 0 for a point
   MarkerLength : ℕ → Value
 
 -- a write: a value for one field of an item

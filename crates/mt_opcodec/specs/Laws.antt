@@ -39,8 +39,8 @@ pub record VersionIsGreatest : Type 0 where
   pub asked_for : (ops : List Op) → (version_of ops ≡ 1)
       ⊎ ((o : Op) × (Contains ops o × (version_of_act o.act ≡ version_of ops)))
 
--- At each dot the union has the operation of the first log, or else of the second. Union is
--- associative and idempotent, and commutative if the logs agree.
+-- At each dot the union has the operation of the first log, or, if that has none, that of the
+-- second. Union is associative and idempotent, and commutative if the logs agree.
 pub record IsUnion : Type 0 where
   pub has : (a b : LogMap) (dot : Dot) → map.get (union a b) dot
       ≡ (if is_some (map.get a dot) then map.get a dot else map.get b dot)

@@ -30,7 +30,7 @@ title_bytes title = length title ∷ title
 abbrev pub frame_bytes : ℕ → List ℕ
 frame_bytes n = to_be_bytes w32 n
 
--- the first frame of the recording that a clip plays, and how many it plays
+-- the first frame of the recording that a clip plays, and the number of frames
 abbrev pub trim_bytes : (offset len : ℕ) → List ℕ
 trim_bytes offset len = frame_bytes offset ++ frame_bytes len
 

@@ -60,7 +60,7 @@ pub fn u128_at(bytes: &[u8]) -> Result<(u128, &[u8]), ReadFault>
     }
 }
 
-// A number that is not 0.
+// Reads a number that is not 0.
 #[tactic(auto, unfolding(crate::specs::OpReading::positive_at))]
 fn positive_u32_at(bytes: &[u8]) -> Result<(u32, &[u8]), ReadFault>
     ensures { Gives (λ x. (x.0, x.1.now)) result (positive_at w32 bytes.now) }

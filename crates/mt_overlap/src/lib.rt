@@ -2,7 +2,7 @@
 //!
 //! Clips on a track may overlap. At each frame only the one that was placed last is heard: of the
 //! spans that cover the frame, the one with the greatest place stamp. A new segment begins where
-//! another span comes to be on top.
+//! the span on top changes.
 //!
 //! ```text
 //! frames          0   4   7   10

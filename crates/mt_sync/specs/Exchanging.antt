@@ -13,7 +13,7 @@ abbrev pub IsLeftOf : LogMap → LogMap → Option LogMap → Type 0
 IsLeftOf own other new = (new ≡ Some own) ⊎ ((new ≡ Some (union own other)) ⊎ (new ≡ None))
 
 -- Each editor has its own operations, and the other's under dots that it had not. There is never a
--- conflict, since nothing is sent under a dot that the other end has.
+-- conflict, since nothing is sent under a dot that the peer has.
 abbrev pub ExchangesSets : LogMap → LogMap → Result (Unit {0}) TalkFault → Option LogMap
     → Option LogMap → Type 0
 ExchangesSets a b (Ok _) a' b' = ((can_say (summary_of a) ≡ true) × (can_say (summary_of b) ≡ true))
