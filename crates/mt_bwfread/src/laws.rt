@@ -25,8 +25,8 @@ pub fn walk_finds()
     ensures { (bytes : List ℕ) (cs : List Chunk) → AreChunks bytes cs → chunks_of bytes ≡ cs }
 {}
 
-/// The walk over bytes splits them into chunks, up to a place without a complete chunk. There is no
-/// other such split.
+/// The walk over bytes splits them into chunks, up to a place without a complete chunk, and there
+/// is no other such split.
 pub fn walk_splits(bytes: &[u8])
     ensures splits { Splits bytes.now (chunks_of bytes.now) (rest_of bytes.now) }
     ensures to_the_end { has_chunk (rest_of bytes.now) ≡ false }

@@ -36,7 +36,8 @@ pub fn more_operations()
     ensures { ReadyAmongMore }
 {}
 
-/// An act writes at most one value of each field, and the function of a field returns that value.
+/// An act writes at most one value of each field, and the definition for that field
+/// (`title_written` and so on) gives it.
 pub fn writes()
     ensures titles { IsFieldOf field.Title field.title_written }
     ensures gains { IsFieldOf field.Gain field.gain_written }
@@ -50,7 +51,7 @@ pub fn writes()
     ensures marker_lengths { IsFieldOf field.MarkerLength field.marker_length_written }
 {}
 
-/// The last write of a field is the one with the greatest stamp. There is one if the field was
+/// The last write of a field is the one with the greatest stamp, and there is one if the field was
 /// written at all.
 pub fn last_write()
     ensures titles { LatestIsGreatest (List ℕ) }
@@ -80,8 +81,8 @@ pub fn last_writer()
     ensures marker_lengths { LastWriteIsGreatest field.MarkerLength field.marker_length_written }
 {}
 
-/// The live tags of an item are the tags that an operation gives it and none removes. The item is
-/// present if and only if it has a live tag.
+/// The live tags of an item are the tags that an operation gives it and none removes, and the item
+/// is present if and only if it has a live tag.
 pub fn presence()
     ensures { PresenceIsOfTags }
 {}
@@ -123,7 +124,7 @@ pub fn compare_digests(first: &Digest, second: &Digest) -> Ordering
     first.cmp(second)
 }
 
-/// Bodies are equal if they are of one case and its fields are equal.
+/// Bodies are equal if they are of one case and their fields are equal.
 pub fn equal_bodies<A: Allocator>(a: &Body<A>, b: &Body<A>) -> bool
     ensures { IsTrue result ↔ (act_of a.now ≡ act_of b.now) }
 {
@@ -137,7 +138,7 @@ pub fn equal_ops<A: Allocator>(a: &Op<A>, b: &Op<A>) -> bool
     a == b
 }
 
-/// Roles are equal if they are of one case; two `TagOf` roles are equal if they name one item.
+/// Roles are equal if they are of one case, and `TagOf` roles also have the same item.
 pub fn equal_roles(role: &Role, other: &Role) -> bool
     ensures { IsTrue result ↔ (role.now ≡ other.now) }
 {

@@ -10,11 +10,11 @@ ghost use Rattle.sync_world.specs.Laws.{NothingHeldBack};
 
 use crate::fault::WorldFault;
 
-/// After every list of events between editors whose names differ, the operations that were sent or
-/// taken have one operation under each dot, and each occurs once in the list of sent operations; so
-/// no take meets another operation under its dot. An operation that an edit makes is in its
-/// author's set, stays there until that editor restarts, and is ready there as long. An editor that
-/// has taken every sent operation holds nothing back.
+/// After every list of events between editors whose names differ, no two operations that were sent
+/// or taken have the same dot, and each sent one occurs once in the list of those sent; so no take
+/// meets another operation under its dot. An operation that an edit makes is in its author's set,
+/// stays there until that editor restarts, and is ready there as long. An editor that has taken
+/// every sent operation holds nothing back.
 pub fn histories()
     ensures one_under_each_dot { InEveryWorld OneUnderEachDot }
     ensures sent_once { InEveryWorld SentOnce }

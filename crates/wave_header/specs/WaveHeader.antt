@@ -11,15 +11,15 @@ use Rattle.mt_bwfread.specs.Wave.{fault_of, IsWave, chunks_in, samples_of}
 use Rattle.mt_bwfread.specs.Cues.{listed_in}
 use Rattle.wave_header.specs.declared.header.WaveHeader.{WaveHeader}
 
--- two files are equal except for their samples
+-- two files have the same data apart from their samples
 pub record SayTheSame (kept text : List ℕ) : Type 0 where
   pub fmt : content_of (codes "fmt ") (chunks_in kept) ≡ content_of (codes "fmt ") (chunks_in text)
   pub bext : content_of (codes "bext") (chunks_in kept) ≡ content_of (codes "bext") (chunks_in text)
   pub cue : content_of (codes "cue ") (chunks_in kept) ≡ content_of (codes "cue ") (chunks_in text)
   pub lists : listed_in (chunks_in kept) ≡ listed_in (chunks_in text)
 
--- The outline is that of the file with this text: it has the same fault, or the same data, and the
--- number of bytes of the file's samples.
+-- The outline is that of the file with this text: it has the same fault, or the same data apart
+-- from the samples, and the number of bytes of the file's samples.
 pub record IsWaveHeader {A : Type 0} (text : List ℕ) (o : WaveHeader A) : Type 0 where
   pub digest : o.digest ≡ sha256 text
   pub fault : fault_of o.kept.items ≡ fault_of text
