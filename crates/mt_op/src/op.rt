@@ -18,7 +18,7 @@ use std::alloc::{Allocator, Global};
 use std::marker::Model;
 
 /// An operation: its stamp and what it does. Each stamp that its body names has a smaller clock
-/// than its own. The length that it gives a clip is at least 1, its fades are at most 1,048,576
+/// than its own. The length that it gives a clip is at least 1, the fades are at most 1,048,576
 /// frames, and the tags of a Remove are from 1 to 65,535, rising.
 #[derive(Drop)]
 #[derive_where(PartialEq, Eq)]

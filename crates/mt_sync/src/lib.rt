@@ -33,9 +33,9 @@
 //!
 //! The first allocator is for what is returned, the second for the bytes of a frame that is not yet
 //! whole. `feed` fails with a length over 8,388,608 bytes (40), a body that is not a message (38),
-//! a message that is not due (39), a conflict (17), a holder that has failed (20) and out of memory
-//! (0). The holder then has its own operations and those before the fault, or has failed if memory
-//! ran out while operations were added, and every later `feed` of the talk fails with 39.
+//! a message that is not due (39), a conflict (17), a holder that has failed (20), and when out of
+//! memory (0). The holder then has its own operations and those before the fault, or has failed if
+//! memory ran out while operations were added, and every later `feed` of the talk fails with 39.
 //! `converse` does all this over a reader and a writer, `exchange` does it in memory, and
 //! `have_bytes`, `lack_bytes` and `take_ops` with bytes that are carried as files.
 //!
