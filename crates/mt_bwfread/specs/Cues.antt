@@ -16,14 +16,14 @@ use Rattle.mt_bwfread.specs.declared.length.Length.{Length}
 
 -- ---- points
 
--- The first so many points of 24 bytes each: the name at 0, and at 20 the frame, which is the
--- sample offset. The position, the chunk and the two starts between are not looked at (profile).
+-- The first n points, of 24 bytes each: the name at 0, and at 20 the frame, which is the sample
+-- offset. The position, the chunk and the two starts between these are ignored (profile).
 unfoldable pub points_in : ℕ → List ℕ → List Point
 points_in zero bytes = []
 points_in (suc n) bytes = record { name = u32_at 0 bytes; at = u32_at 20 bytes }
     ∷ points_in n (drop 24 bytes)
 
--- four bytes give the number of points; those that are not whole are not read (profile)
+-- the first four bytes are the number of points; incomplete points are not read (profile)
 unfoldable pub point_count : List ℕ → ℕ
 point_count cue = if nat_lt (length cue) 4 then 0 else min (u32_at 0 cue) ((length cue - 4) / 24)
 
@@ -37,21 +37,21 @@ points_of text = points_in (point_count (cue_chunk text)) (drop 4 (cue_chunk tex
 
 -- ---- the lists of type adtl
 
--- the bytes of the chunks in a list of type adtl; another chunk has none
+-- the bytes of the chunks in a list of type adtl; none for any other chunk
 unfoldable pub adtl_in : Chunk → List ℕ
 adtl_in c = if bytes_eq c.id (codes "LIST") && bytes_eq (take 4 c.content) (codes "adtl") then drop
     4 c.content else []
 
--- the chunks of the lists among chunks: of each list those up to one that is not whole (profile)
+-- the chunks of the lists among these chunks: of each list those before an incomplete one (profile)
 unfoldable pub listed_in : List Chunk → List Chunk
 listed_in cs = flat_map (λ c. chunks_of (adtl_in c)) cs
 
--- the same in the rest of a list, and behind it in the rest of the file
+-- the chunks in the rest of a list, and after it in the lists of the rest of the file
 unfoldable pub listed_left : List ℕ → List ℕ → List Chunk
 listed_left list file = chunks_of list ++ listed_in (chunks_of file)
 
--- a chunk of this id with a fixed part of so many bytes; one that is too short for it is passed
--- over (profile)
+-- whether a chunk has this id and at least the bytes of its fixed part; shorter ones are skipped
+-- (profile)
 unfoldable pub is_entry : List ℕ → ℕ → Chunk → Bool
 is_entry id fixed c = bytes_eq c.id id && nat_le fixed (length c.content)
 
@@ -59,22 +59,22 @@ is_entry id fixed c = bytes_eq c.id id && nat_le fixed (length c.content)
 unfoldable pub entries_of : List ℕ → ℕ → List ℕ → List Chunk
 entries_of id fixed text = filter (is_entry id fixed) (listed_in (chunks_in text))
 
--- and those that are left in the rest of a list, and behind it in the rest of the file
+-- such chunks in the rest of a list, and after it in the lists of the rest of the file
 unfoldable pub entries_left : List ℕ → ℕ → List ℕ → List ℕ → List Chunk
 entries_left id fixed list file = filter (is_entry id fixed) (listed_left list file)
 
--- what a chunk says of the cue points of a name
+-- a value for the cue points of a name
 pub record Named (X : Type 0) : Type 0 where
   pub name : ℕ
   pub value : X
 
--- what is said first of this name, which counts where there are several (profile)
+-- the first value of this name, which counts if there are several (profile)
 unfoldable pub first_for : {X : Type 0} → ℕ → List (Named X) → Option X
 first_for name all = option_map (λ n. n.value) (find (λ n. n.name == name) all)
 
 -- ---- labels
 
--- a chunk labl: a name, and a text
+-- a chunk labl: a name and a text
 unfoldable pub label_in : Chunk → Named (List ℕ)
 label_in c = record { name = u32_at 0 c.content; value = text_of (drop 4 c.content) }
 
@@ -82,15 +82,15 @@ label_in c = record { name = u32_at 0 c.content; value = text_of (drop 4 c.conte
 unfoldable pub labels_of : List ℕ → List (Named (List ℕ))
 labels_of text = map label_in (entries_of (codes "labl") 4 text)
 
--- those that are left
+-- the labels in the rest of a list and of the file
 unfoldable pub labels_left : List ℕ → List ℕ → List (Named (List ℕ))
 labels_left list file = map label_in (entries_left (codes "labl") 4 list file)
 
 -- ---- lengths
 
 -- A chunk ltxt: a name, and a number of samples of one channel. The purpose, the country, the
--- language, the dialect and the code page, which fill its 20 bytes, and a text behind them are not
--- looked at (profile).
+-- language, the dialect and the code page, which fill its 20 bytes, and a text after them are
+-- ignored (profile).
 unfoldable pub length_in : Chunk → Named ℕ
 length_in c = record { name = u32_at 0 c.content; value = u32_at 4 c.content }
 
@@ -98,7 +98,7 @@ length_in c = record { name = u32_at 0 c.content; value = u32_at 4 c.content }
 unfoldable pub lengths_of : List ℕ → List (Named ℕ)
 lengths_of text = map length_in (entries_of (codes "ltxt") 20 text)
 
--- those that are left
+-- the lengths in the rest of a list and of the file
 unfoldable pub lengths_left : List ℕ → List ℕ → List (Named ℕ)
 lengths_left list file = map length_in (entries_left (codes "ltxt") 20 list file)
 
@@ -111,7 +111,7 @@ pub record CueText : Type 0 where
   pub length : Option ℕ
   pub label : Option (List ℕ)
 
--- with the first length and the first label of its name
+-- the cue of a point, with the first length and the first label of its name
 unfoldable pub cue_of : List (Named ℕ) → List (Named (List ℕ)) → Point → CueText
 cue_of lengths labels p = record { name = p.name; at = p.at; length = first_for p.name lengths;
     label = first_for p.name labels }
@@ -120,7 +120,7 @@ cue_of lengths labels p = record { name = p.name; at = p.at; length = first_for 
 unfoldable pub cues_of : List ℕ → List CueText
 cues_of text = map (cue_of (lengths_of text) (labels_of text)) (points_of text)
 
--- ---- a label, a length and a cue where they stand in the file, seen as texts and numbers
+-- ---- the values of a label, a length and a cue in the file, as texts and numbers
 
 abbrev pub named : Label → Named (List ℕ)
 named l = record { name = l.name; value = l.text.now }

@@ -3,7 +3,7 @@
 use Rattle.std.specs.Prelude.{ℕ, List, [], ◌∷◌, ◌++◌, codes}
 use Rattle.byteorder.specs.Endian.{little_bytes}
 
--- tag, channels, samples a second, bytes a second, bytes of a frame, bits
+-- the tag, the channels, the samples a second, the bytes a second, the bytes of a frame, the bits
 abbrev pub smallest_format : List ℕ
 smallest_format =
     little_bytes 2 1 ++ little_bytes 2 1 ++ little_bytes 4 44100 ++ little_bytes 4 44100

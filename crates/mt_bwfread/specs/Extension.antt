@@ -7,7 +7,7 @@ use Rattle.mt_bwfread.specs.Riff.{u16_at, u32_at, content_of}
 use Rattle.mt_bwfread.specs.Wave.{chunks_in}
 use Rattle.mt_bwfread.specs.declared.bext.Bext.{Bext}
 
--- what the chunk says, as texts and numbers
+-- the content of the chunk, as texts and numbers
 pub record Extension : Type 0 where
   pub description : List ℕ
   pub originator : List ℕ
@@ -22,8 +22,8 @@ pub record Extension : Type 0 where
 unfoldable pub text_of : List ℕ → List ℕ
 text_of field = before_first (λ b. b == 0) field
 
--- The fields by their places. The time reference is the number of samples from midnight to the
--- first. 254 bytes from 348 on are not read, and a shorter chunk reads as none (profile).
+-- The fields at their offsets. The time reference is the number of samples from midnight to the
+-- first. 254 bytes from 348 on are ignored, and a shorter chunk is read as none (profile).
 unfoldable pub extension_in : List ℕ → Option Extension
 extension_in bext =
     if nat_lt (length bext) 602 then None else Some (record {
@@ -37,11 +37,11 @@ extension_in bext =
       history = text_of (drop 602 bext);
     })
 
--- the extension of a wave file: its first chunk bext, where that is long enough
+-- the extension of a wave file: its first chunk bext, if that is long enough
 unfoldable pub bext_of : List ℕ → Option Extension
 bext_of text = option_and_then extension_in (content_of (codes "bext") (chunks_in text))
 
--- an extension where it stands in the file, seen as texts and numbers
+-- the value of an extension in the file, as texts and numbers
 abbrev pub extension : Bext → Extension
 extension b = record {
   description = b.description.now;

@@ -1,4 +1,4 @@
--- The refusals' numbers (profile).
+-- The faults' numbers (profile).
 use Rattle.std.specs.Prelude.{ℕ}
 use Rattle.mt_bwfread.specs.declared.fault.WaveFault.{WaveFault}
 use Rattle.mt_bwfread.specs.declared.fault.WaveFault.TheVariants.{NotRiff, NotWave, Truncated}

@@ -1,4 +1,4 @@
--- What a `Wave` keeps beside the text: parts of the text, and numbers that are read off it.
+-- The fields of a `Wave` besides the text: parts of the text, and numbers that are read from it.
 use Rattle.std.specs.Prelude.{◌≡◌, ◌<◌, ◌^◌, true, codes, drop}
 use Rattle.std.specs.Option.{option_copied}
 use Rattle.mt_bwfread.specs.declared.wave.Wave.TheInside.{Inside}

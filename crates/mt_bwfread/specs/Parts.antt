@@ -1,4 +1,4 @@
--- What the reader's own types say of the text.
+-- The values of the reader's own types, given the text.
 use Rattle.std.specs.Prelude.{◌≡◌, ℕ, ◌<◌, ◌≤◌, true, length, List, [], ◌∷◌, codes, unwrap_or}
 use Rattle.std.specs.Option.{option_copied, option_or}
 use Rattle.mt_bwfread.specs.declared.riff.Part.{Part}
@@ -9,11 +9,11 @@ use Rattle.mt_bwfread.specs.Riff.{Chunk, has_chunk, first_chunk, after_chunk, co
 use Rattle.mt_bwfread.specs.Cues.{entries_left}
 use Rattle.mt_bwfread.specs.Wave.{rate_in, channels_in, bits_in, is_width}
 
--- a chunk where it stands in the file, seen as a chunk
+-- the value of a chunk in the file
 abbrev pub chunk_at : Part → Chunk
 chunk_at p = record { id = p.id.now; content = p.content.now }
 
--- the part is the first whole chunk of the bytes
+-- the part is the first complete chunk of the bytes
 pub record IsFirstPart (bytes : List ℕ) (p : Part) : Type 0 where
   pub whole : has_chunk bytes ≡ true
   pub chunk : chunk_at p ≡ first_chunk bytes
@@ -26,7 +26,7 @@ pub record AreFirsts (f : Found) (cs : List Chunk) : Type 0 where
   pub bext : option_copied f.bext ≡ content_of (codes "bext") cs
   pub cue : option_copied f.cue ≡ content_of (codes "cue ") cs
 
--- the same of one more chunk
+-- the first chunks of four ids, with one more chunk
 pub record AreFirstsWith (old : Found) (c : Chunk) (new : Found) : Type 0 where
   pub fmt : option_copied new.fmt ≡ option_or (option_copied old.fmt)
       (content_of (codes "fmt ") (c ∷ []))
@@ -37,7 +37,7 @@ pub record AreFirstsWith (old : Found) (c : Chunk) (new : Found) : Type 0 where
   pub cue : option_copied new.cue ≡ option_or (option_copied old.cue)
       (content_of (codes "cue ") (c ∷ []))
 
--- the numbers of a format that is read
+-- the numbers of a format that was read
 pub record AreNumbers (f : Format) (fmt : List ℕ) : Type 0 where
   pub rate : f.rate ≡ rate_in fmt
   pub channels : f.channels ≡ channels_in fmt
@@ -51,8 +51,8 @@ pub record AreContents (f : Found) (format : Format) (bytes : List ℕ) : Type 0
   pub numbers : AreNumbers format (unwrap_or (option_copied f.fmt) [])
   pub samples : bytes ≡ unwrap_or (option_copied f.samples) []
 
--- the first chunk of this id and of so many bytes that is left in the lists, and what is left
--- behind it
+-- e is the first chunk with this id and at least `fixed` bytes that is left in the lists, with what
+-- is left after it
 pub record IsEntry (id : List ℕ) (fixed : ℕ) (list file : List ℕ) (e : Entry) : Type 0 where
   pub long : fixed ≤ length e.part.content.now
   pub first : entries_left id fixed list file ≡ chunk_at e.part

@@ -5,23 +5,23 @@ use Rattle.std.specs.Prelude.{length, take, drop, Option, Some, None, nat_le, if
 use Rattle.std.specs.Str.{bytes_eq}
 use Rattle.byteorder.specs.Endian.{little_number, little_bytes}
 
--- the numbers of two and of four bytes from place i on, the lowest byte first
+-- the little-endian numbers of two and of four bytes from index i on
 abbrev pub u16_at : ℕ → List ℕ → ℕ
 u16_at i bytes = little_number 2 (drop i bytes)
 
 abbrev pub u32_at : ℕ → List ℕ → ℕ
 u32_at i bytes = little_number 4 (drop i bytes)
 
--- a chunk: an id of four bytes, and what it contains
+-- a chunk: an id of four bytes, and its content
 pub record Chunk : Type 0 where
   pub id : List ℕ
   pub content : List ℕ
 
--- the id, the length of the content in four bytes, and the content
+-- the text of a chunk: the id, the length of the content in four bytes, and the content
 abbrev pub chunk_text : Chunk → List ℕ
 chunk_text c = c.id ++ little_bytes 4 (length c.content) ++ c.content
 
--- the bytes are one chunk, and what stands after it
+-- the bytes are one chunk and what follows it
 pub record Begins (bytes : List ℕ) (c : Chunk) (after : List ℕ) : Type 0 where
   pub id : length c.id ≡ 4
   pub size : length c.content < 2 ^ 32
@@ -42,20 +42,20 @@ Splits bytes (c ∷ cs) rest = (after : List ℕ) × (Begins bytes c after
 abbrev pub AreChunks : List ℕ → List Chunk → Type 0
 AreChunks bytes cs = (rest : List ℕ) × (Splits bytes cs rest × (length rest < 8))
 
--- ---- the same, computed
+-- ---- the chunks, computed
 
--- the bytes begin with a whole chunk
+-- whether the bytes begin with a complete chunk
 unfoldable pub has_chunk : List ℕ → Bool
 has_chunk bytes = nat_le (8 + u32_at 4 bytes) (length bytes)
 
--- that chunk, and what stands after it and its pad byte
+-- that chunk, and the bytes after it and its pad byte
 unfoldable pub first_chunk : List ℕ → Chunk
 first_chunk bytes = record { id = take 4 bytes; content = take (u32_at 4 bytes) (drop 8 bytes) }
 
 unfoldable pub after_chunk : List ℕ → List ℕ
 after_chunk bytes = drop (u32_at 4 bytes % 2) (drop (u32_at 4 bytes) (drop 8 bytes))
 
--- at most k chunks from the front, up to where no whole chunk stands, and what is left there
+-- at most k chunks from the front, up to a place without a complete chunk, and the rest from there
 unfoldable pub front_chunks : ℕ → List ℕ → List Chunk
 front_chunks zero bytes = []
 front_chunks (suc k) bytes = if has_chunk bytes then
@@ -65,15 +65,15 @@ unfoldable pub front_rest : ℕ → List ℕ → List ℕ
 front_rest zero bytes = bytes
 front_rest (suc k) bytes = if has_chunk bytes then front_rest k (after_chunk bytes) else bytes
 
--- All chunks from the front, up to where no whole chunk stands, and what is left there. Each chunk
--- takes bytes, so there are no more chunks than bytes.
+-- All chunks from the front, up to a place without a complete chunk, and the rest from there. Each
+-- chunk has bytes, so there are no more chunks than bytes.
 unfoldable pub chunks_of : List ℕ → List Chunk
 chunks_of bytes = front_chunks (length bytes) bytes
 
 unfoldable pub rest_of : List ℕ → List ℕ
 rest_of bytes = front_rest (length bytes) bytes
 
--- the content of the first chunk with this id, which counts where there are several (profile)
+-- the content of the first chunk with this id, which counts if there are several (profile)
 unfoldable pub content_of : List ℕ → List Chunk → Option (List ℕ)
 content_of id [] = None
 content_of id (c ∷ cs) = if bytes_eq c.id id then Some c.content else content_of id cs

@@ -1,10 +1,10 @@
-//! Why a text is no wave file.
+//! Why a text is not a wave file.
 
 ghost use Rattle.std.specs.Prelude.{◌≡◌};
 
 use thiserror::Error;
 
-/// Why a text is not read as a wave file: the first of these that stands.
+/// Why a text is not a wave file: the first of these that applies.
 #[derive(Clone, Copy, Debug, PartialEq, Eq, Error)]
 pub enum WaveFault {
     /// The text is shorter than 8 bytes, or does not begin with `RIFF`.
@@ -13,7 +13,7 @@ pub enum WaveFault {
     /// The RIFF chunk has no room for its type, or its type is not `WAVE`.
     #[error("not a wave file")]
     NotWave,
-    /// A chunk says more bytes than are left.
+    /// The size of a chunk is greater than the bytes left.
     #[error("a chunk passes the end of the file")]
     Truncated,
     /// There is no chunk `fmt `.
@@ -33,7 +33,7 @@ pub enum WaveFault {
 impl WaveFault {
     ghost use Rattle.mt_bwfread.specs.Fault.{number_of};
 
-    /// The refusal's number, from 26 to 32.
+    /// The fault's number, from 26 to 32.
     pub fn number(self) -> u8
         ensures { result ≡ number_of self }
     {

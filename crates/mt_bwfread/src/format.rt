@@ -1,4 +1,4 @@
-//! The format of the samples, as the chunk `fmt ` gives it.
+//! The format of the samples, from the chunk `fmt `.
 
 ghost use Rattle.std.specs.Prelude.{◌≤◌, length};
 ghost use Rattle.mt_bwfread.specs.Wave.{FailsBy, numbers_fault, format_fault};
@@ -6,7 +6,7 @@ ghost use Rattle.mt_bwfread.specs.Wave.{FailsBy, numbers_fault, format_fault};
 use crate::fault::WaveFault;
 use crate::number::{u16_at, u32_at};
 
-/// PCM: samples a second, channels, and bits of a sample.
+/// A PCM format: the rate in samples a second, the channels, and the bits of a sample.
 #[derive(Clone, Copy)]
 pub(crate) struct Format {
     pub(crate) rate: u32,
@@ -18,7 +18,7 @@ const EXTENSIBLE: u16 = 0xFFFE;
 
 const PCM: u16 = 1;
 
-// The subformat that stands for PCM.
+// The subformat for PCM.
 const PCM_SUBFORMAT: [u8; 16] = [
     0x01, 0x00, 0x00, 0x00, 0x00, 0x00, 0x10, 0x00, 0x80, 0x00, 0x00, 0xaa, 0x00, 0x38, 0x9b, 0x71,
 ];
@@ -27,7 +27,7 @@ impl Format {
     ghost use Rattle.std.specs.Prelude.{IfOk};
     ghost use Rattle.mt_bwfread.specs.Parts.{AreNumbers};
 
-    /// The format that the content of a chunk `fmt ` says.
+    /// Reads the format from the content of a chunk `fmt `.
     #[tactic(auto, unfolding(crate::specs::Wave::format_fault))]
     pub(crate) fn read(fmt: &[u8]) -> Result<Format, WaveFault>
         ensures fault { FailsBy result (format_fault fmt.now) }
@@ -53,7 +53,7 @@ impl Format {
         }
     }
 
-    // The numbers of PCM.
+    // Reads the numbers of a PCM format.
     #[tactic(auto, unfolding(crate::specs::Wave::numbers_fault))]
     fn numbers(fmt: &[u8]) -> Result<Format, WaveFault>
         requires { 16 ≤ length fmt.now }

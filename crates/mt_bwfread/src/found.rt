@@ -1,4 +1,4 @@
-//! One walk over the chunks of a file, which keeps the first chunk of each kind that is read.
+//! One walk over the chunks of a file, which keeps the first chunk of each kind that is needed.
 
 use crate::fault::WaveFault;
 use crate::riff::Part;
@@ -18,7 +18,8 @@ impl<'a> Found<'a> {
     ghost use Rattle.mt_bwfread.specs.Parts.{chunk_at, AreFirsts, AreFirstsWith};
     ghost use Rattle.mt_bwfread.specs.declared.fault.WaveFault.TheVariants.{Truncated};
 
-    /// Walks over the chunks, once. A chunk that says more bytes than are left is `Truncated`.
+    /// Walks over the chunks once. Fails with `Truncated` if a chunk's size is greater than the
+    /// bytes left.
     pub(crate) fn gather(body: &'a [u8]) -> Result<Found<'a>, WaveFault>
         ensures { MatchResult result
             (λ f. (length (rest_of body.now) < 8) × AreFirsts f (chunks_of body.now))
@@ -42,7 +43,7 @@ impl<'a> Found<'a> {
         }
     }
 
-    // The same with one more chunk, which counts where it is the first of its kind.
+    // The chunks found so far and this one, which counts if it is the first of its kind.
     fn with(self, part: Part<'a>) -> Found<'a>
         ensures { AreFirstsWith self.entry (chunk_at part.entry) result }
     {

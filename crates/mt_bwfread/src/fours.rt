@@ -1,4 +1,4 @@
-//! Samples of 24 bits that stand side by side, four at a time.
+//! Contiguous samples of 24 bits, read four at a time.
 
 ghost use Rattle.std.specs.Prelude.{◌≡◌, ◌+◌, ◌*◌, ◌≤◌, drop, length};
 ghost use Rattle.mt_bwfread.specs.Wave.{scaled};
@@ -7,7 +7,8 @@ ghost use Rattle.mt_bwfread.specs.Fill.{at, AreRead};
 use crate::width::{Bits24, Width};
 use std::simd::prelude::*;
 
-// Four samples, out of the first twelve of sixteen bytes: a zero byte before the three of each.
+// Four samples, from the first twelve of sixteen bytes: a zero byte is put before the three of
+// each.
 #[inline(always)]
 fn four(bytes: &[u8]) -> [i32; 4]
     requires { 16 ≤ length bytes.now }
@@ -24,7 +25,7 @@ fn four(bytes: &[u8]) -> [i32; 4]
     .to_array()
 }
 
-// The bytes from a place on.
+// The bytes from an index on.
 #[inline(always)]
 fn from_place(bytes: &[u8], place: usize) -> &[u8]
     requires { place ≤ length bytes.now }
@@ -33,8 +34,8 @@ fn from_place(bytes: &[u8], place: usize) -> &[u8]
     &bytes[place..]
 }
 
-/// Reads samples of 24 bits that stand side by side. Sixteen bytes are read for four samples, so
-/// the last two are left to be read one by one at least.
+/// Reads contiguous samples of 24 bits. Sixteen bytes are read for four samples, so at least the
+/// last two are read one by one.
 pub(crate) fn load_side_by_side(samples: &mut [i32], bytes: &[u8])
     requires { length samples.old * 3 ≤ length bytes.now }
     ensures { AreRead 24 bytes.now 3 samples.new }

@@ -6,18 +6,19 @@ use crate::text::text;
 use crate::wave::Wave;
 use std::marker::Model;
 
-/// A text for the cue points of one name.
+/// A label of the cue points of one name.
 #[derive(Clone, Copy, Debug, PartialEq, Eq)]
 pub struct Label<'a> {
     /// The name of the cue points.
     pub name: u32,
-    /// The text: a slice of the file up to its first zero byte, not tested for its characters.
+    /// The text: a slice of the file up to its first zero byte, whose characters are not checked.
     pub text: &'a [u8],
 }
 
-/// The labels of a file, one after another in file order. Contracts see the labels that are left.
+/// The labels of a file, one after another in file order. Its value in contracts is the list of the
+/// labels that are left.
 ///
-/// All of them together take the time of one walk over the chunks of the file and of its lists.
+/// Reading all of them takes one walk over the chunks of the file and of its lists.
 #[derive(Drop)]
 pub struct Labels<'a> {
     list: &'a [u8],
@@ -61,9 +62,8 @@ impl<'a> Wave<'a> {
     ghost use Rattle.mt_bwfread.specs.Cues.{labels_of, first_for};
 
     /// The labels of all lists of type `adtl`, in file order; several may have one name, and the
-    /// first of them counts. A list ends before a chunk that is not whole. To label many cue
-    /// points, walk once over these and keep the first of each name: `label` and `cue` walk anew at
-    /// each call.
+    /// first of them counts. A list ends before an incomplete chunk. To label many cue points, walk
+    /// over these once and keep the first of each name: each call of `label` or `cue` walks again.
     pub fn labels(&self) -> Labels<'a>
         ensures { result ≡ labels_of self.now }
     {
@@ -74,7 +74,7 @@ impl<'a> Wave<'a> {
     }
 
     /// The text of the first label of this name. Walks over the chunks of the file and its lists up
-    /// to that label, and over all of them where there is none.
+    /// to that label, and over all of them if there is none.
     pub fn label(&self, name: u32) -> Option<&'a [u8]>
         ensures { option_copied result ≡ first_for name (labels_of self.now) }
     {

@@ -14,18 +14,19 @@ ghost use Rattle.mt_bwfread.specs.declared.fault.WaveFault.TheVariants.{Truncate
 
 use crate::wave::Wave;
 
-/// At most one list of chunks is in the bytes.
+/// Bytes have at most one list of chunks.
 pub fn one_chunk_list()
     ensures { (bytes : List ℕ) (cs ds : List Chunk) → AreChunks bytes cs → AreChunks bytes ds → cs
         ≡ ds }
 {}
 
-/// The walk over the bytes finds the chunks that are in them.
+/// The walk over the bytes finds their chunks.
 pub fn walk_finds()
     ensures { (bytes : List ℕ) (cs : List Chunk) → AreChunks bytes cs → chunks_of bytes ≡ cs }
 {}
 
-/// The walk over bytes splits them, up to where no whole chunk stands; nothing else splits them so.
+/// The walk over bytes splits them into chunks, up to a place without a complete chunk, and there
+/// is no other such split.
 pub fn walk_splits(bytes: &[u8])
     ensures splits { Splits bytes.now (chunks_of bytes.now) (rest_of bytes.now) }
     ensures to_the_end { has_chunk (rest_of bytes.now) ≡ false }
@@ -33,11 +34,12 @@ pub fn walk_splits(bytes: &[u8])
         ≡ false
         → chunks_of bytes.now ≡ cs }
 {
-    // for the proof: that what a slice of bytes holds are bytes
+    // for the proof: that a slice of bytes has bytes
     let _ = bytes;
 }
 
-/// A `Wave` is a wave file, whose chunks are in its text and whose numbers are in range.
+/// The value of a `Wave` is a wave file, whose chunks are in its text and whose numbers are in
+/// range.
 #[inline]
 pub fn is_wave(wave: &Wave<'_>)
     ensures wave { IsWave wave.now }
@@ -47,20 +49,20 @@ pub fn is_wave(wave: &Wave<'_>)
     ensures width { IsTrue (is_width (bits_of wave.now)) }
     ensures frames { frames_of wave.now < 2 ^ 32 }
 {
-    // for the proof: that what a `Wave` keeps is a wave file
+    // for the proof: that the value of a `Wave` is a wave file
     let _ = &wave.text;
 }
 
-// The sample that stands anywhere in bytes passes 32 bits nowhere.
+// A sample at any place in bytes fits 32 bits.
 #[inline]
 fn scaled_small(bytes: &[u8])
     ensures { (bits at : ℕ) → unsigned_abs (scaled bits (drop at bytes.now)) ≤ 2 ^ 31 }
 {
-    // for the proof: that what a slice of bytes holds are bytes
+    // for the proof: that a slice of bytes has bytes
     let _ = bytes;
 }
 
-/// No sample of a wave file passes 2^31 in size, whatever the frame and the channel.
+/// The magnitude of every sample of a wave file is at most 2^31, at any frame and on any channel.
 #[inline]
 pub fn small_samples(wave: &Wave<'_>)
     ensures { (frame channel : ℕ) → unsigned_abs (sample_or_silence wave.now frame channel)
@@ -69,7 +71,7 @@ pub fn small_samples(wave: &Wave<'_>)
     scaled_small(wave.samples);
 }
 
-/// What the definitions say of the smallest wave file and of its fronts.
+/// The definitions applied to the smallest wave file and to prefixes of it.
 pub fn smallest_wave()
     ensures read { IsWave smallest }
     ensures rate { rate_of smallest ≡ 44100 }

@@ -5,18 +5,19 @@ use crate::number::u32_at;
 use crate::wave::Wave;
 use std::marker::Model;
 
-/// A length for the cue points of one name: what a chunk `ltxt` says.
+/// A length of the cue points of one name, from a chunk `ltxt`.
 #[derive(Clone, Copy, Debug, PartialEq, Eq)]
 pub struct Length {
     /// The name of the cue points.
     pub name: u32,
-    /// How many frames from such a cue point on are meant. They may pass the last frame.
+    /// The number of frames that such a cue point covers. They may extend past the last frame.
     pub len: u32,
 }
 
-/// The lengths in a file, one after another in file order. Contracts see the lengths that are left.
+/// The lengths in a file, one after another in file order. Its value in contracts is the list of
+/// the lengths that are left.
 ///
-/// All of them together take the time of one walk over the chunks of the file and of its lists.
+/// Reading all of them takes one walk over the chunks of the file and of its lists.
 #[derive(Drop)]
 pub struct Lengths<'a> {
     list: &'a [u8],
@@ -58,10 +59,10 @@ impl<'a> Wave<'a> {
     ghost use Rattle.std.specs.Prelude.{◌≡◌};
     ghost use Rattle.mt_bwfread.specs.Cues.{lengths_of, first_for};
 
-    /// The lengths that the chunks `ltxt` of all lists of type `adtl` say, in file order; several
-    /// may have one name, and the first of them counts. A chunk of fewer than 20 bytes says none,
-    /// and a list ends before a chunk that is not whole. For many cue points walk once over these,
-    /// as over `labels`: `length` and `cue` walk anew at each call.
+    /// The lengths in the chunks `ltxt` of all lists of type `adtl`, in file order; several may
+    /// have one name, and the first of them counts. A chunk of fewer than 20 bytes has none, and a
+    /// list ends before an incomplete chunk. For many cue points walk over these once, as over
+    /// `labels`: each call of `length` or `cue` walks again.
     pub fn lengths(&self) -> Lengths<'a>
         ensures { result ≡ lengths_of self.now }
     {
@@ -72,7 +73,7 @@ impl<'a> Wave<'a> {
     }
 
     /// The first length of this name, in frames. Walks over the chunks of the file and its lists up
-    /// to the chunk that says it, and over all of them where there is none.
+    /// to the chunk that has it, and over all of them if there is none.
     pub fn length(&self, name: u32) -> Option<u32>
         ensures { result ≡ first_for name (lengths_of self.now) }
     {

@@ -1,13 +1,15 @@
-//! Reading of Broadcast Wave files over slices of the file: no byte of a text or of a sample is
-//! copied, and nothing is allocated.
+//! Reads Broadcast Wave files as slices of the file: no byte of a text or of a sample is copied,
+//! and nothing is allocated.
 //!
 //! ```rust
 //! use mt_bwfread::Wave;
 //! use std::test::Fail;
 //!
 //! // Two frames of 16 bits on one channel, 48,000 a second, and a cue point at the second one.
-//! const FILE: &[u8] = b"RIFF\x4c\0\0\0WAVEfmt \x10\0\0\0\x01\0\x01\0\x80\xbb\0\0\0\x77\x01\0\x02\0\x10\0\
-//! data\x04\0\0\0\x01\0\xff\xffcue \x1c\0\0\0\x01\0\0\0\x07\0\0\0\x01\0\0\0data\0\0\0\0\0\0\0\0\x01\0\0\0";
+//! const FILE: &[u8] = b"RIFF\x4c\0\0\0WAVE\
+//! fmt \x10\0\0\0\x01\0\x01\0\x80\xbb\0\0\0\x77\x01\0\x02\0\x10\0\
+//! data\x04\0\0\0\x01\0\xff\xff\
+//! cue \x1c\0\0\0\x01\0\0\0\x07\0\0\0\x01\0\0\0data\0\0\0\0\0\0\0\0\x01\0\0\0";
 //!
 //! fn reads_samples_and_cue_points(rt: HostRuntime) -> Result<(), Fail> {
 //!     let wave = Wave::read(FILE)?;
@@ -23,9 +25,9 @@
 //! }
 //! ```
 //!
-//! A clause sees a [`Wave`] as its text, and says what is read off it in the words of `specs/`:
-//! `Riff` has the chunks, `Wave` the refusals, the format and the samples, `Extension` the chunk
-//! `bext`, and `Cues` the cue points, their lengths and their labels.
+//! In contracts the value of a [`Wave`] is its text, the bytes of the file. What is read from it is
+//! defined in `specs/`: `Riff` has the chunks, `Wave` the faults, the format and the samples,
+//! `Extension` the chunk `bext`, and `Cues` the cue points, their lengths and their labels.
 #![tactic(auto)]
 
 mod bext;

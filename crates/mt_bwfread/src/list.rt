@@ -1,4 +1,4 @@
-//! The chunks of the lists of type `adtl`, which say something of cue points.
+//! The chunks of the lists of type `adtl`, which have data for cue points.
 
 ghost use Rattle.std.specs.Prelude.{◌≡◌, [], MatchOption};
 ghost use Rattle.mt_bwfread.specs.Cues.{adtl_in, is_entry, entries_left};
@@ -6,15 +6,15 @@ ghost use Rattle.mt_bwfread.specs.Parts.{chunk_at, IsEntry};
 
 use crate::riff::Part;
 
-/// A chunk of a list, and what is left of the file behind that list.
+/// A chunk of a list, and the rest of the file after that list.
 #[derive(Clone, Copy)]
 pub(crate) struct Entry<'a> {
     pub(crate) part: Part<'a>,
     pub(crate) file: &'a [u8],
 }
 
-/// The first chunk of this id and of `fixed` bytes or more that is left in a list, and behind it in
-/// the lists of the file.
+/// The first chunk with this id and at least `fixed` bytes in the rest of a list, and after it in
+/// the lists of the rest of the file.
 pub(crate) fn next_entry<'a>(
     id: &[u8],
     fixed: usize,
@@ -44,7 +44,7 @@ pub(crate) fn next_entry<'a>(
     }
 }
 
-// Whether a chunk has this id and so many bytes.
+// Whether a chunk has this id and at least `fixed` bytes.
 #[tactic(auto, unfolding(crate::specs::Cues::is_entry))]
 fn is_entry(part: Part<'_>, id: &[u8], fixed: usize) -> bool
     ensures { result ≡ is_entry id.now fixed (chunk_at part.entry) }
@@ -52,7 +52,7 @@ fn is_entry(part: Part<'_>, id: &[u8], fixed: usize) -> bool
     part.id == id && part.content.len() >= fixed
 }
 
-// The chunks of a list of type `adtl`, and nothing of another chunk.
+// The chunks of a list of type `adtl`; nothing for any other chunk.
 #[tactic(auto, unfolding(crate::specs::Cues::adtl_in))]
 fn adtl<'a>(part: Part<'a>) -> &'a [u8]
     ensures { result.now ≡ adtl_in (chunk_at part.entry) }

@@ -1,4 +1,4 @@
-//! Numbers in the file, whose lowest byte stands first.
+//! Little-endian numbers in the file.
 
 ghost use Rattle.std.specs.Prelude.{◌≡◌, ◌≤◌, ◌+◌, length};
 ghost use Rattle.mt_bwfread.specs.Riff.{u16_at, u32_at};

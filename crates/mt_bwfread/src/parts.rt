@@ -1,4 +1,4 @@
-//! The parts of a wave file: where its chunks stand, its format and samples, and its cue points.
+//! The parts of a wave file: its chunks, its format and samples, and its cue points.
 
 ghost use Rattle.std.specs.Prelude.{◌≡◌, ◌≤◌, ◌*◌, true, Some, IfOk, MatchResult, length, drop};
 ghost use Rattle.std.specs.Option.{option_copied};
@@ -12,7 +12,7 @@ use crate::format::Format;
 use crate::found::Found;
 use crate::number::u32_at;
 
-/// The bytes that hold the chunks of a wave file.
+/// The bytes of the chunks of a wave file.
 #[tactic(auto, unfolding(crate::specs::Wave::is_riff, crate::specs::Wave::is_wave, crate::specs::Wave::end_of, crate::specs::Wave::body_of, crate::specs::Wave::fault_of))]
 pub(crate) fn body(text: &[u8]) -> Result<&[u8], WaveFault>
     ensures { MatchResult result

@@ -5,7 +5,7 @@ ghost use Rattle.mt_bwfread.specs.Riff.{has_chunk};
 
 use crate::number::u32_at;
 
-/// A chunk where it stands in the file, and the bytes behind it and its pad byte.
+/// A chunk at its place in the file, and the bytes after it and its pad byte.
 #[derive(Clone, Copy)]
 pub(crate) struct Part<'a> {
     pub(crate) id: &'a [u8],
@@ -19,7 +19,7 @@ impl<'a> Part<'a> {
     ghost use Rattle.mt_bwfread.specs.Riff.{content_of};
     ghost use Rattle.mt_bwfread.specs.Parts.{chunk_at, IsFirstPart};
 
-    /// The chunk at the front, if all of it is there.
+    /// The chunk at the front, if it is complete.
     #[tactic(auto, unfolding(crate::specs::Riff::has_chunk, crate::specs::Riff::first_chunk, crate::specs::Riff::after_chunk))]
     pub(crate) fn first(bytes: &'a [u8]) -> Option<Part<'a>>
         ensures { MatchOption result (has_chunk bytes.now ≡ false) (IsFirstPart bytes.now) }
@@ -39,7 +39,8 @@ impl<'a> Part<'a> {
         })
     }
 
-    /// The content of an earlier chunk with this id, and else of this one, if it has this id.
+    /// The content of an earlier chunk with this id, if there is one, and otherwise of this chunk,
+    /// if it has this id.
     #[tactic(auto, unfolding(crate::specs::Riff::content_of))]
     pub(crate) fn unless(self, earlier: Option<&'a [u8]>, id: &[u8]) -> Option<&'a [u8]>
         ensures { option_copied result
@@ -54,7 +55,8 @@ impl<'a> Part<'a> {
     }
 }
 
-// What stands behind the pad byte of a content of this size. At the very end there may be none.
+// The bytes after the pad byte of a content of this size. At the very end the pad byte may be
+// missing.
 fn after_pad(size: usize, after: &[u8]) -> &[u8]
     ensures { result.now ≡ drop (size % 2) after.now }
 {

@@ -13,9 +13,8 @@ impl<'a> Wave<'a> {
     ghost use Rattle.mt_bwfread.specs.Wave.{channels_of, frames_of, sample_of};
     ghost use Rattle.mt_bwfread.specs.Fill.{sample_or_silence};
 
-    /// The sample of a channel in a frame, from -2^31 to 2^31 - 1, whatever the file's width: its
-    /// highest value is that of the file's width, and its low bits are zero. Takes the same short
-    /// time for each.
+    /// The sample of a channel at a frame, from -2^31 to 2^31 - 1, whatever the file's width: the
+    /// file's value is in its upper bits, and its low bits are zero. Takes constant time.
     #[inline]
     pub fn sample(&self, frame: u64, channel: u16) -> i64
         requires in_frames { frame < frames_of self.now }
@@ -28,9 +27,9 @@ impl<'a> Wave<'a> {
         scaled_at(self.format.bits, from_place(self.samples, at))
     }
 
-    /// Fills the slice with the samples of a channel from a frame on, each as `sample` gives it,
-    /// and with zeros past the last frame. One loop for each width of samples, which looks at
-    /// nothing else: for many samples take this call.
+    /// Fills the slice with the samples of a channel from a frame on, each as `sample` returns it,
+    /// and with zeros after the last frame. Uses one loop for each width of samples, which looks at
+    /// nothing else: for many samples use this call.
     pub fn fill(&self, first: u64, channel: u16, samples: &mut [i32])
         requires in_channels { channel < channels_of self.now }
         ensures { (k : ℕ) → k < length samples.new → slice_index_or samples.new k (pos 0)
@@ -64,7 +63,7 @@ fn from_place(bytes: &[u8], at: usize) -> &[u8]
     &bytes[at..]
 }
 
-// The sample of so many bits that the bytes begin with.
+// The sample of this many bits at the front of the bytes.
 #[inline]
 #[tactic(auto, unfolding(crate::specs::Wave::scaled))]
 fn scaled_at(bits: u16, bytes: &[u8]) -> i64

@@ -3,7 +3,7 @@
 ghost use Rattle.std.specs.Prelude.{◌≡◌, ◌==◌, position};
 ghost use Rattle.mt_bwfread.specs.Extension.{text_of};
 
-/// The field up to its first zero byte, or all of it.
+/// The field up to its first zero byte, or all of it if it has none.
 pub(crate) fn text(field: &[u8]) -> &[u8]
     ensures { result.now ≡ text_of field.now }
 {

@@ -6,7 +6,7 @@ use crate::found::Found;
 use crate::parts::{body, contents, points};
 use std::marker::Model;
 
-/// A wave file. Contracts see the text: the file's bytes.
+/// A wave file. Its value in contracts is its text: the file's bytes.
 #[derive(Drop)]
 pub struct Wave<'a> {
     pub(crate) text: &'a [u8],
@@ -64,23 +64,20 @@ impl<'a> Wave<'a> {
         })
     }
 
-    /// Reads the text of a wave file: a RIFF chunk of type `WAVE` whose chunk `fmt ` says PCM of 8,
-    /// 16, 24 or 32 bits, and a chunk `data`. Nothing is copied; the time grows with the number of
-    /// chunks alone.
+    /// Reads the text of a wave file: a RIFF chunk of type `WAVE` with a chunk `fmt ` for PCM of 8,
+    /// 16, 24 or 32 bits, and a chunk `data`. Copies nothing; the time depends only on the number
+    /// of chunks. Chunks come in any order, and the first of each kind counts. Bytes after the RIFF
+    /// chunk are ignored, and if its size is greater than the bytes left, it ends at the end of the
+    /// text.
     ///
-    /// Chunks stand in any order, and the first of each kind counts. Bytes behind the RIFF chunk
-    /// are not looked at, and where it says more bytes than there are, the text's end is its end.
-    ///
-    /// # Errors
-    /// The first of these: 26 where the text does not begin as a RIFF chunk; 27 where the type is
-    /// not `WAVE`; 28 where a chunk passes the end; 29 without a chunk `fmt `; 30 and 31 where the
+    /// The first of these errors: 26 if the text does not begin as a RIFF chunk; 27 if the type is
+    /// not `WAVE`; 28 if a chunk extends past the end; 29 without a chunk `fmt `; 30 and 31 if the
     /// format is malformed or not PCM of those widths; 32 without a chunk `data`.
     pub fn read(text: &'a [u8]) -> Result<Wave<'a>, WaveFault>
-        // What is read is this text, and the chunks in it are the chunks that are read off it.
+        // The value is this text, and the chunks are those that it has.
         ensures found { IfOk result (λ w. (w ≡ text.now) × IsWave text.now) }
         ensures chunks { OnOk result (AreChunks (body_of text.now) (chunks_in text.now)) }
-        // Which refusal it is: the first three by the text, the others by the chunks that are in
-        // it.
+        // Which error is returned: the first three by the text, the others by its chunks.
         ensures not_riff { IsErrOf result NotRiff ↔ (is_riff text.now ≡ false) }
         ensures not_wave { IsErrOf result NotWave ↔ ((is_riff text.now ≡ true)
             × (is_wave text.now ≡ false)) }
@@ -89,13 +86,13 @@ impl<'a> Wave<'a> {
             × ((cs : List Chunk) → ¬ AreChunks (body_of text.now) cs)) }
         ensures by_chunks { (cs : List Chunk) → is_riff text.now ≡ true → is_wave text.now ≡ true
             → AreChunks (body_of text.now) cs → FailsBy result (fault_in cs) }
-        // The same, computed.
+        // Which error is returned, as a function.
         ensures exact { FailsBy result (fault_of text.now) }
     {
         Wave::parse(text)
     }
 
-    /// The samples a second of each channel, 1 or more.
+    /// The number of samples a second of each channel, 1 or more.
     #[inline]
     pub fn rate(&self) -> u32
         ensures value { result ≡ rate_of self.now }
@@ -104,7 +101,7 @@ impl<'a> Wave<'a> {
         self.format.rate
     }
 
-    /// The channels, 1 or more.
+    /// The number of channels, 1 or more.
     #[inline]
     pub fn channels(&self) -> u16
         ensures value { result ≡ channels_of self.now }
@@ -122,7 +119,7 @@ impl<'a> Wave<'a> {
         self.format.bits
     }
 
-    /// The frames: the samples of one channel. A last frame that is not whole does not count.
+    /// The number of frames: of samples in one channel. An incomplete last frame does not count.
     #[inline]
     pub fn frames(&self) -> u64
         ensures value { result ≡ frames_of self.now }

@@ -1,4 +1,4 @@
-//! The four spellings of a sample, and samples in a row.
+//! The four encodings of a sample, and reading samples at regular distances.
 
 ghost use Rattle.std.specs.Prelude.{◌≡◌, ℕ, ◌+◌, ◌-◌, ◌*◌, ◌/◌, ◌<◌, ◌≤◌, length, pos, IsTrue};
 ghost use Rattle.mt_bwfread.specs.Wave.{is_width, scaled};
@@ -6,13 +6,13 @@ ghost use Rattle.mt_bwfread.specs.Fill.{at, AreRead};
 
 use crate::fours::load_side_by_side;
 
-/// A spelling of samples: of how many bits they are, and in how many bytes.
+/// An encoding of samples: its number of bits, and of bytes.
 pub(crate) trait Width {
     ghost bits: { ℕ };
 
     ghost wide: { ℕ };
 
-    /// The sample that the bytes begin with.
+    /// The sample at the front of the bytes.
     fn sample(bytes: &[u8]) -> i32
         requires { Self.wide ≤ length bytes.now }
         ensures { result ≡ scaled Self.bits bytes.now };
@@ -74,7 +74,7 @@ impl Width for Bits32 {
     }
 }
 
-// The samples that stand `step` bytes apart, from the front of the bytes on.
+// Reads samples that are `step` bytes apart, from the front of the bytes on.
 fn load_each<W: Width>(samples: &mut [i32], bytes: &[u8], step: usize)
     requires room { length samples.old * step ≤ length bytes.now + step - W.wide }
     requires within { W.wide ≤ step }
@@ -85,8 +85,8 @@ fn load_each<W: Width>(samples: &mut [i32], bytes: &[u8], step: usize)
     }
 }
 
-/// The samples of so many bits that stand `step` bytes apart, from the front of the bytes on: one
-/// loop for each width, and one for 24 bits side by side.
+/// Reads samples of this many bits that are `step` bytes apart, from the front of the bytes on: one
+/// loop for each width, and one for contiguous samples of 24 bits.
 pub(crate) fn load(samples: &mut [i32], bits: u16, bytes: &[u8], step: usize)
     requires width { IsTrue (is_width bits) }
     requires room { length samples.old * step ≤ length bytes.now + step - bits / 8 }
@@ -106,7 +106,7 @@ pub(crate) fn load(samples: &mut [i32], bits: u16, bytes: &[u8], step: usize)
     }
 }
 
-/// Zeros.
+/// Fills the slice with zeros.
 pub(crate) fn silence(samples: &mut [i32])
     ensures { (k : ℕ) → k < length samples.new → at samples.new k ≡ pos 0 }
 {

@@ -1,5 +1,5 @@
--- The head of a written file: what its broadcast extension says (EBU Tech 3285, section 2), and
--- which texts it takes (profile).
+-- The head of a written file: the content of its broadcast extension (EBU Tech 3285, section 2),
+-- and which texts are valid (profile).
 use Rattle.std.specs.Prelude.{ℕ, Bool, true, false, not, ◌&&◌, ◌==◌, nat_le, if◌then◌else◌, List}
 use Rattle.std.specs.Prelude.{[], ◌∷◌, length, codes, Option, Some, None}
 use Rattle.std.specs.List.{list_all}
@@ -17,12 +17,11 @@ pub record HeadText : Type 0 where
 abbrev pub is_printing : ℕ → Bool
 is_printing byte = nat_le 32 byte && nat_le byte 126
 
--- a text of so many bytes at most, all of them printing
+-- a text of at most this many bytes, all of them printing
 abbrev pub is_text : ℕ → List ℕ → Bool
 is_text size text = nat_le (length text) size && list_all is_printing text
 
--- Whether a text is of a form: `d` in the form stands for any digit, and every other byte for
--- itself.
+-- Whether a text matches a form: `d` in the form is any digit, and every other byte is itself.
 abbrev pub is_form_byte : ℕ → ℕ → Bool
 is_form_byte form byte = if form == 100 then nat_le 48 byte && nat_le byte 57 else byte == form
 
@@ -32,7 +31,7 @@ is_form [] (b ∷ text) = false
 is_form (f ∷ form) [] = false
 is_form (f ∷ form) (b ∷ text) = is_form_byte f b && is_form form text
 
--- The first text that is not taken, counted from 1. The calendar is not checked.
+-- The number of the first invalid text, counted from 1. The calendar is not checked.
 abbrev pub bad_text : HeadText → Option ℕ
 bad_text h =
     if not (is_text 256 h.description) then Some 1

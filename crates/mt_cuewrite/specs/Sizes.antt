@@ -1,4 +1,4 @@
--- The sizes of what is written, as they are counted: no definition of the subject.
+-- The sizes of the written parts, as the code computes them; not definitions of the subject.
 use Rattle.std.specs.Prelude.{◌≡◌, ℕ, ◌+◌, ◌*◌, ◌%◌, ◌^◌, ◌<◌, ◌==◌, if◌then◌else◌, List, length}
 use Rattle.std.specs.Prelude.{min}
 use Rattle.mt_sessionview.specs.SessionValue.{Marker}
@@ -7,11 +7,11 @@ use Rattle.mt_cuewrite.specs.Head.{HeadText}
 use Rattle.mt_cuewrite.specs.File.{before, list_content, samples, riff}
 use Rattle.mt_cuewrite.specs.declared.size.Sizes.{Sizes}
 
--- a chunk of a content of so many bytes, with its id, its size and its pad byte
+-- the size of a chunk with a content of n bytes, including its id, its size and its pad byte
 abbrev pub padded_size : ℕ → ℕ
 padded_size n = 8 + n + n % 2
 
--- the chunks of so many markers, whose list has so many bytes, or the limit where that is less
+-- the size of the chunks of n markers with a list of this size, at most the limit
 abbrev pub marks_size : ℕ → ℕ → ℕ
 marks_size n size = if n == 0 then 0 else (if size == 2 ^ 32 then 2 ^ 32 else min (2 ^ 32)
     (padded_size (4 + 24 * n) + padded_size size))

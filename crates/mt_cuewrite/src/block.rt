@@ -13,16 +13,16 @@ use mt_render::Mix;
 use std::alloc::Allocator;
 use std::io::Write;
 
-/// The frames that one block has at most.
+/// The greatest number of frames of a block.
 const BLOCK: u64 = 4096;
 
-/// The samples that a block has at most, on two channels.
+/// The greatest number of samples of a block, on two channels.
 pub(crate) const SAMPLES: usize = 8192;
 
-/// The bytes that these take at most, of 24 bits each.
+/// The greatest number of bytes of a block, with 24 bits for each sample.
 const BYTES: usize = 24_576;
 
-// Spells a sample of so many bits, 16 or 24, at the front of the bytes.
+// Encodes a sample of this many bits, 16 or 24, at the front of the bytes.
 #[tactic(auto, unfolding(crate::specs::File::sample))]
 fn spell_one(bits: u16, value: i32, bytes: &mut [u8])
     requires low { 16 ≤ bits }
@@ -33,7 +33,7 @@ fn spell_one(bits: u16, value: i32, bytes: &mut [u8])
     LittleEndian::write_int(bytes, i64::from(value), usize::from(bits / 8));
 }
 
-// Spells samples of so many bits, 16 or 24.
+// Encodes samples of this many bits, 16 or 24.
 fn spell(bits: u16, samples: &[i32], bytes: &mut [u8])
     requires low { 16 ≤ bits }
     requires high { bits ≤ 24 }
@@ -46,7 +46,7 @@ fn spell(bits: u16, samples: &[i32], bytes: &mut [u8])
     }
 }
 
-// Puts so many frames from `first` on, for which the samples have room.
+// Writes `count` frames from `first` on, for which `samples` has room.
 fn put_block<A: Allocator, W: Write>(
     output: &mut BufferedLatch<'_, W>,
     mix: &Mix<'_, '_, A>,
@@ -68,7 +68,7 @@ fn put_block<A: Allocator, W: Write>(
     output.put(spelled);
 }
 
-/// Puts the samples of all frames, through room for a block of them.
+/// Writes the samples of all frames, with `samples` as the buffer for a block.
 pub(crate) fn put_samples<A: Allocator, W: Write>(
     output: &mut BufferedLatch<'_, W>,
     mix: &Mix<'_, '_, A>,

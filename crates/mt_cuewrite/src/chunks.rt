@@ -12,14 +12,14 @@ use mt_opcodec::BufferedLatch;
 use mt_render::Format;
 use std::io::Write;
 
-// How many channels there are, in a word.
+// The number of channels as a word.
 fn channels_word(channels: u16) -> &'static str
     ensures { result.now ≡ channels_word channels }
 {
     if channels == 1 { "mono" } else { "stereo" }
 }
 
-// How long a number is in decimal.
+// The length of a number in decimal.
 fn decimal_size(number: u32) -> u32
     ensures value { result ≡ length (decimal number) }
     ensures small { result ≤ 40 }
@@ -28,7 +28,7 @@ fn decimal_size(number: u32) -> u32
     digits.format(number).len() as u32
 }
 
-// How long the coding history is.
+// The length of the coding history.
 fn history_size(format: Format) -> u32
     ensures value { result ≡ length (history format) }
     ensures small { result ≤ 200 }
@@ -37,7 +37,7 @@ fn history_size(format: Format) -> u32
     8 + decimal_size(format.rate()) + 3 + decimal_size(u32::from(format.bits())) + 3 + word + 2
 }
 
-/// How long the content of `bext` is.
+/// The length of the content of `bext`.
 pub(crate) fn bext_size(format: Format, head: &Head<'_>) -> u32
     ensures value { result ≡ length (bext format head.now) }
     ensures small { result ≤ 1000 }
@@ -47,7 +47,7 @@ pub(crate) fn bext_size(format: Format, head: &Head<'_>) -> u32
     602 + history_size(format)
 }
 
-// Puts the coding history.
+// Writes the coding history.
 fn put_history<W: Write>(output: &mut BufferedLatch<'_, W>, format: Format)
     ensures { Puts W.contents output.old output.new (history format) }
 {
@@ -60,7 +60,7 @@ fn put_history<W: Write>(output: &mut BufferedLatch<'_, W>, format: Format)
     output.put(b"\r\n");
 }
 
-// Puts the texts of the head.
+// Writes the texts of the head.
 fn put_texts<W: Write>(output: &mut BufferedLatch<'_, W>, head: &Head<'_>)
     ensures { Puts W.contents output.old output.new (texts head.now) }
 {
@@ -71,7 +71,7 @@ fn put_texts<W: Write>(output: &mut BufferedLatch<'_, W>, head: &Head<'_>)
     output.put(head.time.as_bytes());
 }
 
-// Puts the content of `bext`.
+// Writes the content of `bext`.
 fn put_extension<W: Write>(output: &mut BufferedLatch<'_, W>, format: Format, head: &Head<'_>)
     ensures { Puts W.contents output.old output.new (bext format head.now) }
 {
@@ -82,7 +82,7 @@ fn put_extension<W: Write>(output: &mut BufferedLatch<'_, W>, format: Format, he
     put_history(output, format);
 }
 
-/// Puts the chunk `bext`.
+/// Writes the chunk `bext`.
 pub(crate) fn put_bext<W: Write>(output: &mut BufferedLatch<'_, W>, format: Format, head: &Head<'_>)
     ensures { Puts W.contents output.old output.new (padded
         (record { id = codes "bext"; content = bext format head.now })) }
@@ -93,7 +93,7 @@ pub(crate) fn put_bext<W: Write>(output: &mut BufferedLatch<'_, W>, format: Form
     put_pad(output, size);
 }
 
-// Puts the content of `fmt `.
+// Writes the content of `fmt `.
 fn put_numbers<W: Write>(output: &mut BufferedLatch<'_, W>, format: Format)
     ensures { Puts W.contents output.old output.new (format_content format) }
 {
@@ -106,7 +106,7 @@ fn put_numbers<W: Write>(output: &mut BufferedLatch<'_, W>, format: Format)
     put_u16(output, format.bits());
 }
 
-/// Puts the chunk `fmt `.
+/// Writes the chunk `fmt `.
 pub(crate) fn put_format<W: Write>(output: &mut BufferedLatch<'_, W>, format: Format)
     ensures { Puts W.contents output.old output.new (padded
         (record { id = codes "fmt "; content = format_content format })) }

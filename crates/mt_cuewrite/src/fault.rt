@@ -1,21 +1,21 @@
-//! Why a head is not made, and a file not written.
+//! Why a head cannot be made, and a file not be written.
 
 ghost use Rattle.std.specs.Prelude.{◌≡◌};
 ghost use Rattle.mt_cuewrite.specs.Faults.{bounce_number};
 
 use thiserror::Error;
 
-/// Why a head is not made.
+/// Why a head cannot be made.
 #[derive(Clone, Copy, Debug, PartialEq, Eq, Error)]
 pub enum HeadFault {
-    /// The first text that is not taken: 1 the description, 2 the originator, 3 the reference, 4
-    /// the date, 5 the time.
+    /// The first invalid text: 1 the description, 2 the originator, 3 the reference, 4 the date, 5
+    /// the time.
     #[error("text {0} of the head cannot be written")]
     BadHead(u8),
 }
 
 impl HeadFault {
-    /// The refusal's number: 36.
+    /// The fault's number: 36.
     pub fn number(&self) -> u8
         ensures { result ≡ 36 }
     {
@@ -25,7 +25,7 @@ impl HeadFault {
     }
 }
 
-/// Why a file is not written.
+/// Why a file cannot be written.
 #[derive(Clone, Copy, Debug, PartialEq, Eq, Error)]
 pub enum BounceFault {
     #[error("out of memory")]
@@ -39,7 +39,7 @@ pub enum BounceFault {
 }
 
 impl BounceFault {
-    /// The refusal's number: 0, 35 or 37.
+    /// The fault's number: 0, 35 or 37.
     pub fn number(&self) -> u8
         ensures { result ≡ bounce_number self.now }
     {

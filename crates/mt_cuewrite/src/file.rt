@@ -1,4 +1,4 @@
-//! The file.
+//! Writing the file.
 
 ghost use Rattle.std.specs.Prelude.{◌≡◌, ◌+◌, ◌*◌, ◌^◌, ◌<◌, ◌≤◌, true, false, length, IfErr, OnOk};
 ghost use Rattle.std.specs.Prelude.{codes};
@@ -24,7 +24,7 @@ use mt_sessionview::MarkerView;
 use std::alloc::Allocator;
 use std::io::Write;
 
-// Puts the chunk `data`.
+// Writes the chunk `data`.
 fn put_data<A: Allocator, W: Write>(
     output: &mut BufferedLatch<'_, W>,
     mix: &Mix<'_, '_, A>,
@@ -41,7 +41,7 @@ fn put_data<A: Allocator, W: Write>(
     put_pad(output, size);
 }
 
-// Puts the chunks of the markers, where there are any before the end.
+// Writes the chunks of the markers, if there are any before the end.
 fn put_marks<A: Allocator, W: Write>(
     output: &mut BufferedLatch<'_, W>,
     end: u64,
@@ -60,7 +60,7 @@ fn put_marks<A: Allocator, W: Write>(
     }
 }
 
-// Puts the file.
+// Writes the file.
 fn put_file<A: Allocator, B: Allocator, W: Write>(
     output: &mut BufferedLatch<'_, W>,
     mix: &Mix<'_, '_, A>,
@@ -81,9 +81,9 @@ fn put_file<A: Allocator, B: Allocator, W: Write>(
     put_marks(output, mix.length(), markers, sizes);
 }
 
-/// Looks whether the file of a mix, of markers and of a head can be written, as `bounce` does
-/// first. Refused only as `TooLong` (35), where the size of the RIFF chunk is over 4,294,967,295
-/// bytes. Takes no memory, and no time but that of a walk over the markers.
+/// Checks whether the file of a mix, of markers and of a head can be written, as `bounce` does
+/// first. The only error is `TooLong` (35): the size of the RIFF chunk is over 4,294,967,295 bytes.
+/// Allocates nothing, and takes only the time of a walk over the markers.
 pub fn check_size<A: Allocator, B: Allocator>(
     mix: &Mix<'_, '_, A>,
     markers: &[MarkerView<B>],
@@ -99,19 +99,16 @@ pub fn check_size<A: Allocator, B: Allocator>(
     }
 }
 
-/// Writes the file of a mix, of markers and of a head, and nothing else. Markers that stand at the
-/// programme's end or behind it are left out; the others are cue points in the order of the slice,
-/// named 1, 2 and so on. One of a length that is not 0 is a region too, whose length is cut at the
-/// programme's end.
+/// Writes the file of a mix, of markers and of a head, and nothing else. Markers at or after the
+/// end of the programme are left out; the others are cue points in the order of the slice, named 1,
+/// 2 and so on. A marker whose length is not 0 is also a region, which is cut off at the end of the
+/// programme.
 ///
-/// Refused, in this order: `TooLong` (35) where the size of the RIFF chunk is over 4,294,967,295
-/// bytes, and `Memory` (0) where the room for a block of samples, its one growth, was refused, each
-/// with nothing written; then `Write` (37) where the output's latch has failed, which then holds a
-/// prefix of the file.
-///
-/// The output is given pieces of at most 24,576 bytes, a block of 4,096 frames at a time. The
-/// memory is 32,768 bytes, whatever the length is; the time is that of the mix, and of one walk
-/// over the markers for their points, their labels, their regions and their sizes each.
+/// Fails, in this order, with `TooLong` (35) if the size of the RIFF chunk is over 4,294,967,295
+/// bytes, and with `Memory` (0) if the one allocation, 32,768 bytes for a block of samples, failed,
+/// both with nothing written; then with `Write` (37) if the output's latch has failed: the output
+/// then has a prefix of the file. Writes a block of 4,096 frames at a time, in pieces of at most
+/// 24,576 bytes.
 #[tactic(auto, unfolding(base_io::specs::Buffered::Puts))]
 pub fn bounce<A: Allocator, B: Allocator, W: Write>(
     alloc: A,

@@ -1,4 +1,4 @@
-//! What a file tells of itself.
+//! The head of a file.
 
 ghost use Rattle.std.specs.Prelude.{◌≡◌, Some, None, IfOk, OnOk, IfErr, codes};
 ghost use Rattle.std.specs.List.{list_all};
@@ -8,7 +8,7 @@ ghost use Rattle.mt_cuewrite.specs.Faults.{IsBadHead};
 use crate::fault::HeadFault;
 use std::marker::Model;
 
-/// The head of a written file: what its broadcast extension says (EBU Tech 3285).
+/// The head of a written file: the content of its broadcast extension (EBU Tech 3285).
 #[derive(Drop)]
 pub struct Head<'h> {
     pub(crate) description: &'h str,
@@ -47,14 +47,14 @@ fn all_printing(text: &str) -> bool
     text.as_bytes().iter().all(|byte| is_printing(*byte))
 }
 
-// Whether a text has so many bytes at most, all of them printing.
+// Whether a text has at most this many bytes, all of them printing.
 fn is_text(size: usize, text: &str) -> bool
     ensures { result ≡ is_text size text.now }
 {
     text.len() <= size && all_printing(text)
 }
 
-// Whether a byte stands where the form has this one.
+// Whether a byte matches this byte of a form.
 fn is_form_byte(form: u8, byte: u8) -> bool
     ensures { result ≡ is_form_byte form byte }
 {
@@ -65,7 +65,7 @@ fn is_form_byte(form: u8, byte: u8) -> bool
     }
 }
 
-// Whether a text is of a form, in which `d` stands for any digit and every other byte for itself.
+// Whether a text matches a form, in which `d` is any digit and every other byte is itself.
 fn is_form(form: &[u8], text: &[u8]) -> bool
     ensures { result ≡ is_form form.now text.now }
 {
@@ -81,13 +81,13 @@ fn is_form(form: &[u8], text: &[u8]) -> bool
 }
 
 impl<'h> Head<'h> {
-    /// A head of its texts and of the number of frames from midnight to the first frame. Takes no
-    /// memory.
+    /// A head with these texts and the number of frames from midnight to the first frame. Allocates
+    /// nothing.
     ///
-    /// Refused as `BadHead` (36) with the number of the first text that is not taken: 1 a
-    /// description of over 256 bytes, 2 an originator of over 32, 3 a reference of over 32, each
-    /// also where a byte is not from 0x20 to 0x7E; 4 a date that is not `dddd-dd-dd` and 5 a time
-    /// that is not `dd:dd:dd`, d a digit. The calendar is not checked.
+    /// Fails with `BadHead` (36) and the number of the first invalid text: 1 a description of over
+    /// 256 bytes, 2 an originator of over 32, 3 a reference of over 32, each also if a byte is not
+    /// from 0x20 to 0x7E; 4 a date that is not `dddd-dd-dd` and 5 a time that is not `dd:dd:dd`,
+    /// where d is a digit. The calendar is not checked.
     pub fn new(
         description: &'h str,
         originator: &'h str,

@@ -1,9 +1,9 @@
-//! A mix as a wave file with its markers as cue points: RIFF WAVE with the broadcast extension of
-//! EBU Tech 3285.
+//! Writes a mix as a wave file with its markers as cue points: RIFF WAVE with the broadcast
+//! extension of EBU Tech 3285.
 //!
-//! A `Head` says what the file tells of itself; `bounce` writes the file of a mix, of the session's
-//! markers and of a head, piece by piece through one small buffer, whatever the programme's length
-//! is:
+//! A `Head` has the texts of the broadcast extension; `bounce` writes the file of a mix, of the
+//! session's markers and of a head, piece by piece through one small buffer, whatever the length of
+//! the programme:
 //!
 //! ```rust
 //! use mt_bwfread::Wave;
@@ -25,7 +25,8 @@
 //!     let mut catalogue = Catalogue::new(rt.alloc());
 //!     let _digest = catalogue.add(RECORDING)?;
 //!     let mix = Mix::new(rt.alloc(), &session, &catalogue, Format::new(48000, 24, 1)?)?;
-//!     let head = Head::new("Morning news", "Radio Nord", "RN-2026-117", "2026-11-23", "06:00:00", 0)?;
+//!     let head =
+//!         Head::new("Morning news", "Radio Nord", "RN-2026-117", "2026-11-23", "06:00:00", 0)?;
 //!     let mut output = Latch::new(Vec::new(rt.alloc()));
 //!     bounce(rt.alloc(), &mix, session.markers.items(), &head, &mut output)?;
 //!     let file = output.into_inner();
@@ -36,11 +37,12 @@
 //! }
 //! ```
 //!
-//! Chunks stand in this order, each with a zero byte behind it where its size is odd: `bext` (the
-//! head in version 0, and the coding history), `fmt ` (PCM), `data`, and, where a marker stands
-//! before the programme's end, `cue ` and `LIST` of type `adtl` with a `labl` for each of those
-//! markers, named 1, 2 and so on, and behind these a `ltxt` for each of them that has a length.
-//! `specs/File.antt` is that file in one definition.
+//! The chunks are in this order, each followed by a zero byte if its size is odd: `bext` (the head
+//! in version 0, and the coding history), `fmt ` (PCM), `data`, and, if there is a marker before
+//! the end of the programme, `cue ` and `LIST` of type `adtl`, with a `labl` for each of those
+//! markers, named 1, 2 and so on, and then a `ltxt` for each of them that has a length.
+//! `specs/File.antt` has that file in one definition. The time is that of the mix, and of one walk
+//! over the markers each for their points, their labels, their regions and their sizes.
 #![tactic(auto)]
 
 mod block;

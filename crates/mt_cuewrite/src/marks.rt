@@ -15,17 +15,17 @@ use std::io::Write;
 /// The name of the first cue point.
 const FIRST: u32 = 1;
 
-/// How long the content of a region is.
+/// The length of the content of a region.
 const REGION: u32 = 20;
 
-/// Whether a marker stands before the end, so that it is written.
+/// Whether a marker is before the end, so that it is written.
 pub(crate) fn is_before<A: Allocator>(marker: &MarkerView<A>, end: u64) -> bool
     ensures { result ≡ nat_lt marker.now.at end }
 {
     u64::from(marker.at) < end
 }
 
-// Puts the cue point of this name.
+// Writes the cue point with this name.
 fn put_point<A: Allocator, W: Write>(
     output: &mut BufferedLatch<'_, W>,
     name: u32,
@@ -42,7 +42,7 @@ fn put_point<A: Allocator, W: Write>(
     put_u32(output, marker.at);
 }
 
-// Puts the cue point of each marker before the end.
+// Writes the cue point of each marker before the end.
 fn put_points<A: Allocator, W: Write>(
     output: &mut BufferedLatch<'_, W>,
     end: u64,
@@ -60,7 +60,7 @@ fn put_points<A: Allocator, W: Write>(
     }
 }
 
-/// How long the content of a marker's label is.
+/// The length of the content of a marker's label.
 pub(crate) fn label_size<A: Allocator>(marker: &MarkerView<A>) -> u32
     ensures value { (name : ℕ) → result ≡ length (label_content name marker.now) }
     ensures small { result ≤ 260 }
@@ -68,7 +68,7 @@ pub(crate) fn label_size<A: Allocator>(marker: &MarkerView<A>) -> u32
     marker.title.text().len() as u32 + 5
 }
 
-// Puts the content of the label of this name.
+// Writes the content of the label with this name.
 #[tactic(auto, using(base_io::proofs::Putting::then_puts), unfolding(crate::specs::File::label_content))]
 fn put_label_content<A: Allocator, W: Write>(
     output: &mut BufferedLatch<'_, W>,
@@ -82,7 +82,7 @@ fn put_label_content<A: Allocator, W: Write>(
     put_zeros(output, 1);
 }
 
-// Puts the label of this name.
+// Writes the label with this name.
 fn put_label<A: Allocator, W: Write>(
     output: &mut BufferedLatch<'_, W>,
     name: u32,
@@ -96,7 +96,7 @@ fn put_label<A: Allocator, W: Write>(
     put_pad(output, size);
 }
 
-// Puts the label of each marker before the end.
+// Writes the label of each marker before the end.
 fn put_labels<A: Allocator, W: Write>(
     output: &mut BufferedLatch<'_, W>,
     end: u64,
@@ -114,7 +114,7 @@ fn put_labels<A: Allocator, W: Write>(
     }
 }
 
-/// How long the chunk of a marker's region is, if it has one.
+/// The length of the chunk of a marker's region; 0 if it has none.
 pub(crate) fn region_size<A: Allocator>(marker: &MarkerView<A>) -> u32
     ensures value { (end name : ℕ) → result ≡ length (region end name marker.now) }
     ensures small { result ≤ 28 }
@@ -122,7 +122,7 @@ pub(crate) fn region_size<A: Allocator>(marker: &MarkerView<A>) -> u32
     if marker.len == 0 { 0 } else { 8 + REGION }
 }
 
-// How many frames the region of a marker before the end has.
+// The number of frames of the region of a marker before the end.
 fn region_length<A: Allocator>(end: u64, marker: &MarkerView<A>) -> u32
     requires before { marker.now.at < end }
     ensures { result ≡ min marker.now.len (end - marker.now.at) }
@@ -130,7 +130,7 @@ fn region_length<A: Allocator>(end: u64, marker: &MarkerView<A>) -> u32
     u64::from(marker.len).min(end - u64::from(marker.at)) as u32
 }
 
-// Puts the content of the region of this name.
+// Writes the content of the region with this name.
 fn put_region_content<A: Allocator, W: Write>(
     output: &mut BufferedLatch<'_, W>,
     end: u64,
@@ -146,7 +146,7 @@ fn put_region_content<A: Allocator, W: Write>(
     put_zeros(output, 8);
 }
 
-// Puts the region of this name, if the marker has a length.
+// Writes the region with this name, if the marker has a length.
 fn put_region<A: Allocator, W: Write>(
     output: &mut BufferedLatch<'_, W>,
     end: u64,
@@ -162,7 +162,7 @@ fn put_region<A: Allocator, W: Write>(
     }
 }
 
-// Puts the region of each marker before the end that has a length.
+// Writes the region of each marker before the end that has a length.
 fn put_regions<A: Allocator, W: Write>(
     output: &mut BufferedLatch<'_, W>,
     end: u64,
@@ -181,7 +181,7 @@ fn put_regions<A: Allocator, W: Write>(
     }
 }
 
-/// Puts the chunk `cue ` of so many points.
+/// Writes the chunk `cue ` with this many points.
 pub(crate) fn put_cue<A: Allocator, W: Write>(
     output: &mut BufferedLatch<'_, W>,
     end: u64,
@@ -198,7 +198,7 @@ pub(crate) fn put_cue<A: Allocator, W: Write>(
     put_points(output, end, markers);
 }
 
-/// Puts the chunk `LIST` of the labels and the regions, of a content of this size.
+/// Writes the chunk `LIST` of the labels and the regions, with a content of this size.
 pub(crate) fn put_list<A: Allocator, W: Write>(
     output: &mut BufferedLatch<'_, W>,
     end: u64,

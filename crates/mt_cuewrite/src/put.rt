@@ -1,4 +1,4 @@
-//! Pieces of a file into a latch with a buffer before it.
+//! Writing pieces of a file into a buffered latch.
 
 ghost use Rattle.std.specs.Prelude.{◌≡◌, ◌++◌, ◌<◌, ◌≤◌, ◌%◌, ◌^◌, length};
 ghost use Rattle.byteorder.specs.Endian.{little_bytes};
@@ -9,7 +9,7 @@ use byteorder::{ByteOrder, LittleEndian};
 use mt_opcodec::BufferedLatch;
 use std::io::Write;
 
-/// Puts a number in two bytes, the lowest first.
+/// Writes a little-endian number in two bytes.
 pub(crate) fn put_u16<W: Write>(output: &mut BufferedLatch<'_, W>, number: u16)
     ensures { Puts W.contents output.old output.new (little_bytes 2 number) }
 {
@@ -18,7 +18,7 @@ pub(crate) fn put_u16<W: Write>(output: &mut BufferedLatch<'_, W>, number: u16)
     output.put(&bytes);
 }
 
-/// Puts a number in four bytes, the lowest first.
+/// Writes a little-endian number in four bytes.
 pub(crate) fn put_u32<W: Write>(output: &mut BufferedLatch<'_, W>, number: u32)
     ensures { Puts W.contents output.old output.new (little_bytes 4 number) }
 {
@@ -27,7 +27,7 @@ pub(crate) fn put_u32<W: Write>(output: &mut BufferedLatch<'_, W>, number: u32)
     output.put(&bytes);
 }
 
-/// Puts a number in eight bytes, the lowest first.
+/// Writes a little-endian number in eight bytes.
 pub(crate) fn put_u64<W: Write>(output: &mut BufferedLatch<'_, W>, number: u64)
     ensures { Puts W.contents output.old output.new (little_bytes 8 number) }
 {
@@ -36,7 +36,7 @@ pub(crate) fn put_u64<W: Write>(output: &mut BufferedLatch<'_, W>, number: u64)
     output.put(&bytes);
 }
 
-/// Puts up to 256 zero bytes.
+/// Writes up to 256 zero bytes.
 pub(crate) fn put_zeros<W: Write>(output: &mut BufferedLatch<'_, W>, count: usize)
     requires few { count ≤ 256 }
     ensures { Puts W.contents output.old output.new (zeros count) }
@@ -45,7 +45,7 @@ pub(crate) fn put_zeros<W: Write>(output: &mut BufferedLatch<'_, W>, count: usiz
     output.put(&bytes[..count]);
 }
 
-/// Puts a text in a field of so many bytes, up to 256, filled with zero bytes.
+/// Writes a text in a field of this many bytes, up to 256, padded with zero bytes.
 #[tactic(auto, using(base_io::proofs::Putting::then_puts), unfolding(crate::specs::File::filled))]
 pub(crate) fn put_filled<W: Write>(output: &mut BufferedLatch<'_, W>, size: usize, text: &str)
     requires small { size ≤ 256 }
@@ -56,7 +56,7 @@ pub(crate) fn put_filled<W: Write>(output: &mut BufferedLatch<'_, W>, size: usiz
     put_zeros(output, size - text.len());
 }
 
-/// Puts the id of a chunk and the size of its content.
+/// Writes the id of a chunk and the size of its content.
 #[tactic(auto, using(base_io::proofs::Putting::then_puts))]
 pub(crate) fn put_chunk_head<W: Write>(output: &mut BufferedLatch<'_, W>, id: &[u8; 4], size: u32)
     ensures { Puts W.contents output.old output.new (id.now ++ little_bytes 4 size) }
@@ -65,7 +65,7 @@ pub(crate) fn put_chunk_head<W: Write>(output: &mut BufferedLatch<'_, W>, id: &[
     put_u32(output, size);
 }
 
-/// Puts the pad byte behind a content of odd size.
+/// Writes the pad byte after a content of odd size.
 pub(crate) fn put_pad<W: Write>(output: &mut BufferedLatch<'_, W>, size: u32)
     ensures { Puts W.contents output.old output.new (zeros (size % 2)) }
 {

@@ -1,4 +1,4 @@
-//! How long a file is, before anything of it is written.
+//! The size of a file, computed before any of it is written.
 
 ghost use Rattle.std.specs.Prelude.{◌≡◌, ℕ, ◌+◌, ◌*◌, ◌<◌, ◌≤◌, ◌^◌, min, length, IfSome, IfNone};
 ghost use Rattle.mt_render.specs.Mix.{length_of};
@@ -13,31 +13,30 @@ use mt_render::Mix;
 use mt_sessionview::MarkerView;
 use std::alloc::Allocator;
 
-/// One more than the greatest size that four bytes hold.
+/// One more than the greatest size that fits four bytes.
 const LIMIT: u64 = 4_294_967_296;
 
-/// How long the parts of a file are that vary, in bytes, and how many markers are written.
+/// The sizes in bytes of the parts of a file that vary, and the number of written markers.
 #[derive(Clone, Copy)]
 pub(crate) struct Sizes {
-    /// The content of `data`.
+    /// The size of the content of `data`.
     pub(crate) samples: u32,
-    /// The markers before the end.
+    /// The number of markers before the end.
     pub(crate) markers: u32,
-    /// The content of `LIST`.
+    /// The size of the content of `LIST`.
     pub(crate) list: u32,
-    /// The content of `RIFF`.
+    /// The size of the content of `RIFF`.
     pub(crate) riff: u32,
 }
 
-// How many markers are written, and how long the content of `LIST` is, or the limit where that is
-// less.
+// The number of written markers, and the size of the content of `LIST`, at most the limit.
 #[derive(Clone, Copy)]
 struct Marks {
     markers: u64,
     list: u64,
 }
 
-// How long a chunk is whose content has so many bytes, its pad byte too.
+// The size of a chunk whose content has this many bytes, including its pad byte.
 fn padded_size(size: u64) -> u64
     requires small { size < 2 ^ 40 }
     ensures { result ≡ padded_size size }
@@ -66,7 +65,7 @@ fn count_marks<A: Allocator>(end: u64, markers: &[MarkerView<A>]) -> Marks
     marks
 }
 
-// How long the chunks `cue ` and `LIST` are together, or the limit where that is less.
+// The size of the chunks `cue ` and `LIST` together, at most the limit.
 fn marks_size(marks: Marks) -> u64
     requires few { marks.list < 2 ^ 32 → marks.markers < 2 ^ 32 }
     requires limit { marks.list ≤ 2 ^ 32 }
@@ -81,7 +80,7 @@ fn marks_size(marks: Marks) -> u64
     (padded_size(4 + 24 * marks.markers) + padded_size(marks.list)).min(LIMIT)
 }
 
-/// The sizes of a file, or `None` where the size of its RIFF chunk does not fit in four bytes.
+/// The sizes of a file, or `None` if the size of its RIFF chunk does not fit four bytes.
 pub(crate) fn sizes_of<A: Allocator, B: Allocator>(
     mix: &Mix<'_, '_, A>,
     markers: &[MarkerView<B>],

@@ -12,7 +12,7 @@ use Rattle.mt_holdback.specs.declared.hold_back.Offered.TheVariants.{Held, Ready
 abbrev by : ℕ → ℕ → ℕ → Stamp
 by c r n = record { clock = c; replica = record { 0 = r }; seq = n }
 
--- what an offer answers, what is kept after it, and what it releases
+-- the result of an offer, the contents after it, and what it releases
 abbrev told : Contents Op → Op → Offered
 told contents o = answer op_rules contents o
 
@@ -28,7 +28,7 @@ is_known contents stamp = knows op_rules contents stamp
 abbrev kept_of : List Op → List Op → Contents Op
 kept_of released waiting = record { released = released; waiting = waiting }
 
--- ---- a marker, and its title that comes before it
+-- ---- a marker, and a retitle that is offered before it
 
 abbrev news : Op
 news = record { stamp = by 1 10 1; act = AddMarker 480 (codes "News") }
@@ -69,7 +69,7 @@ second = record { stamp = by 2 11 2; act = AddTrack (Some (by 1 11 1)) (codes "b
 abbrev third : Op
 third = record { stamp = by 3 11 3; act = AddTrack (Some (by 2 11 2)) (codes "c") }
 
--- they wait by rising stamp, whatever order they came in
+-- they wait by rising stamp, in whatever order they were offered
 pub chain_waits : after (after empty third) second ≡ kept_of [] (second ∷ third ∷ [])
 chain_waits = refl
 
@@ -77,7 +77,7 @@ pub chain_is_released : released_by (after (after empty third) second) first ≡
     ∷ third ∷ []
 chain_is_released = refl
 
--- from index 1 on: the first was released before
+-- from index 1 on: the first one was released before
 pub chain_is_closed : told (after (after empty first) third) second ≡ Ready 1
 chain_is_closed = refl
 
@@ -99,7 +99,7 @@ pub last_tag_releases_it : released_by (after (after empty news) removed) restor
     ∷ removed ∷ []
 last_tag_releases_it = refl
 
--- ---- a wrong role: a marker has no gain, so what gives it one waits for good
+-- ---- a wrong role: a marker has no gain, so an operation that sets its gain waits for good
 
 abbrev louder : Op
 louder = record { stamp = by 2 11 1; act = SetGain (by 1 10 1) unchanged }
@@ -110,7 +110,7 @@ wrong_role = refl
 pub wrong_role_before : after (after empty louder) news ≡ kept_of (news ∷ []) (louder ∷ [])
 wrong_role_before = refl
 
--- a tag of another item is in the wrong role too
+-- the tag of another item is in the wrong role too
 abbrev sport : Op
 sport = record { stamp = by 1 11 1; act = AddMarker 7 (codes "Sport") }
 
@@ -120,7 +120,8 @@ removed_by_another_tag = record { stamp = by 2 10 2; act = Remove (by 1 10 1) (b
 pub tag_of_another_item : told (after (after empty news) sport) removed_by_another_tag ≡ Held
 tag_of_another_item = refl
 
--- a stamp is met as a whole: another operation of that replica and number does not meet it
+-- a stamp is met as a whole: an operation with the same replica and number but another clock does
+-- not meet it
 abbrev news_later : Op
 news_later = record { stamp = by 2 10 1; act = AddMarker 480 (codes "News") }
 

@@ -1,4 +1,4 @@
--- The number of each refusal.
+-- The number of each error.
 use Rattle.std.specs.Prelude.{ℕ}
 use Rattle.mt_holdback.specs.declared.fault.HoldBackFault.{HoldBackFault}
 use Rattle.mt_holdback.specs.declared.fault.HoldBackFault.TheVariants.{Memory, Failed}

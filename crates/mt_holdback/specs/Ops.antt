@@ -1,4 +1,4 @@
--- What operations wait by: their stamps, and pairs of stamps and roles.
+-- How operations wait: by their stamps, and by needs of a stamp and a role.
 use Rattle.std.specs.Prelude.{map}
 use Rattle.mt_op.specs.declared.need.Role.{Role}
 use Rattle.mt_op.specs.OpValue.{Op}

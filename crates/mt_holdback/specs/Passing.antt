@@ -1,4 +1,4 @@
--- What a pass leaves.
+-- The items that a pass leaves.
 use Rattle.std.specs.Prelude.{cond, List, [], ◌∷◌, ◌++◌}
 use Rattle.mt_holdback.specs.Waiting.{Rules}
 use Rattle.mt_holdback.specs.Laws.{is_met_by, passed}
@@ -10,7 +10,7 @@ module _ {T R : Type 0} (rules : Rules T R) where
   left taken (t ∷ waiting) = cond (is_met_by rules taken t) (left (taken ++ t ∷ []) waiting)
       (t ∷ left taken waiting)
 
-  -- what a pass makes of what is held
+  -- the contents after a pass over the waiting items
   abbrev pub after_pass : Contents T → Contents T
   after_pass contents = record { released = passed rules contents.released contents.waiting; waiting
       = left contents.released contents.waiting }

@@ -1,4 +1,4 @@
--- What contracts see of a hold-back.
+-- The value of a hold-back in contracts.
 use Rattle.std.specs.Prelude.{Bool}
 use Rattle.mt_holdback.specs.HoldBack.{Contents}
 

@@ -1,15 +1,15 @@
--- What is ready, of things with a stamp that need others by their stamps and in roles (causal
--- delivery by explicit needs: INRIA RR-7506, operation-based objects).
+-- Readiness of items with a stamp that need others by their stamps and in roles (causal delivery by
+-- explicit needs: INRIA RR-7506, operation-based objects).
 use Rattle.std.specs.Prelude.{ℕ, ◌<◌, Bool, ◌&&◌, List}
 use Rattle.std.specs.List.{AllByRecursion}
 use Rattle.mt_stamp.specs.StampOrder.{Stamp, stamp_eq}
 use Rattle.mt_op.specs.Ready as rule
 
--- What items wait by.
+-- The stamps, needs and roles of items of one kind.
 pub record Rules (T R : Type 0) : Type 0 where
   -- The stamp of an item.
   pub key : T → Stamp
-  -- What it needs: the stamp of each item, and the role in which that is needed.
+  -- The needs of an item: the stamp of each needed item, and the role in which it is needed.
   pub needs : T → List (Stamp × R)
   -- Whether an item may be needed in a role.
   pub fits : R → T → Bool
@@ -22,7 +22,7 @@ module _ {T R : Type 0} (rules : Rules T R) where
   abbrev pub clock_of : T → ℕ
   clock_of t = (rules.key t).clock
 
-  -- Whether an item is the one that a need names: by its whole stamp and its role.
+  -- Whether an item meets a need: by its whole stamp and its role.
   abbrev pub meets : Stamp × R → T → Bool
   meets need t = stamp_eq need.0 (rules.key t) && rules.fits need.1 t
 

@@ -10,16 +10,16 @@ use thiserror::Error;
 /// Why an item could not be offered.
 #[derive(Clone, Copy, Debug, PartialEq, Eq, Error)]
 pub enum HoldBackFault {
-    /// A growth was refused.
+    /// An allocation failed.
     #[error("out of memory")]
     Memory,
-    /// A growth was refused earlier, and the hold-back is empty for good.
+    /// An allocation failed in an earlier call, and the hold-back is empty for good.
     #[error("the hold-back has failed")]
     Failed,
 }
 
 impl HoldBackFault {
-    /// The refusal's number: 0 or 20.
+    /// The error's number: 0 or 20.
     pub fn number(&self) -> u8
         ensures { result ≡ number_of self.now }
     {

@@ -1,4 +1,4 @@
-//! The hold-back.
+//! The hold-back: a causal delivery buffer.
 
 ghost use Rattle.std.specs.Prelude.{◌≡◌, true, false, cond, ltb, length};
 ghost use Rattle.mt_holdback.specs.Laws.{is_met_by};
@@ -13,16 +13,16 @@ use mt_stamp::Stamp;
 use std::alloc::{Allocator, Global};
 use std::marker::Model;
 
-/// What became of an item that was offered.
+/// The result of offering an item.
 #[derive(Clone, Copy, Debug, PartialEq, Eq)]
 pub enum Offered {
-    /// It waits.
+    /// The item is not ready and waits.
     Held,
-    /// It is ready: what was released from this index on is what became ready, by rising key.
+    /// The item is ready: the released items from this index on became ready by it, by rising key.
     Ready(usize),
 }
 
-/// Items that wait for others, and those that were released.
+/// Items that wait for others, and items that were released.
 #[derive(Drop)]
 pub struct HoldBack<T: Waits, A: Allocator = Global> {
     released: Vec<T, A>,
@@ -46,7 +46,7 @@ impl<T: Waits + Drop, A: Allocator> HoldBack<T, A> {
     ghost use Rattle.mt_holdback.specs.Offering.{empty, OfferGives};
     ghost use Rattle.mt_holdback.specs.Queue.{MayOffer};
 
-    /// A hold-back to which nothing was offered. Takes no memory.
+    /// An empty hold-back. Allocates nothing.
     pub fn new(alloc: A) -> Self
         ensures { result ≡ record { contents = empty; failed = false } }
     {
@@ -57,7 +57,7 @@ impl<T: Waits + Drop, A: Allocator> HoldBack<T, A> {
         }
     }
 
-    /// Whether an item with this key was offered. Never, where the hold-back has failed.
+    /// Whether an item with this key was offered. `false` if the hold-back has failed.
     pub fn knows(&self, key: &Stamp) -> bool
         ensures { result ≡ knows T.rules self.now.contents key.now }
     {
@@ -67,7 +67,7 @@ impl<T: Waits + Drop, A: Allocator> HoldBack<T, A> {
         }
     }
 
-    /// How many items were offered that wait; 0 where the hold-back has failed.
+    /// The number of offered items that wait; 0 if the hold-back has failed.
     pub fn held(&self) -> u64
         ensures { result ≡ length self.now.contents.waiting }
     {
@@ -77,8 +77,7 @@ impl<T: Waits + Drop, A: Allocator> HoldBack<T, A> {
         }
     }
 
-    /// The items that were released, in the order in which they were; none where the hold-back has
-    /// failed.
+    /// The released items, in the order of their release; none if the hold-back has failed.
     pub fn released(&self) -> &[T]
         ensures value { result.now ≡ self.now.contents.released }
         ensures exact { IsHoldBack T.rules self.now.contents }
@@ -86,12 +85,12 @@ impl<T: Waits + Drop, A: Allocator> HoldBack<T, A> {
         self.released.as_slice()
     }
 
-    /// Offers an item, whose key has to be new, as `knows` tells. `Held` where it is not ready
-    /// among all that was offered; then nothing is released. `Ready(first)` where it is: `released`
-    /// from index `first` on are the items that became ready by it, rising by key, and all the
-    /// others wait on. Refused as `Failed` (20) where the hold-back has failed, which changes
-    /// nothing, and else as `Memory` (0) where an allocation failed: then the hold-back has failed
-    /// and is empty for good.
+    /// Offers an item with a new key (`knows` is false for it). Returns `Held` if the item is not
+    /// ready among all offered items; then nothing is released. Returns `Ready(first)` if it is
+    /// ready: `released` from index `first` on are the items that became ready by it, by rising
+    /// key, and all others go on waiting. Fails with `Failed` (20) if the hold-back has failed,
+    /// which changes nothing, and otherwise with `Memory` (0) if an allocation failed: then the
+    /// hold-back has failed and is empty for good.
     pub fn offer(&mut self, item: T) -> Result<Offered, HoldBackFault>
     where
         A: Clone,
@@ -101,8 +100,8 @@ impl<T: Waits + Drop, A: Allocator> HoldBack<T, A> {
         self.take(item, false)
     }
 
-    /// Offers an item as `offer` does, of which it is known that each need is met by one that was
-    /// released: it is ready, and none of its needs is looked for.
+    /// Offers an item as `offer` does, where each of its needs is known to be met by a released
+    /// item: so it is ready, and none of its needs is looked up.
     pub fn offer_ready(&mut self, item: T) -> Result<Offered, HoldBackFault>
     where
         A: Clone,
@@ -113,7 +112,7 @@ impl<T: Waits + Drop, A: Allocator> HoldBack<T, A> {
         self.take(item, true)
     }
 
-    // Takes an item that is offered, of which it may be known that its needs are met.
+    // Takes an offered item; `is_met` if its needs are known to be met.
     fn take(&mut self, item: T, is_met: bool) -> Result<Offered, HoldBackFault>
     where
         A: Clone,
@@ -139,7 +138,7 @@ impl<T: Waits + Drop, A: Allocator> HoldBack<T, A> {
     }
 }
 
-// What an offer answers, from how many were released before it and after it.
+// The result of an offer, given the number of released items before and after it.
 fn told(before: usize, after: usize) -> Offered
     ensures { result ≡ cond (ltb before after) (Ready before) Held }
 {

@@ -1,8 +1,8 @@
-//! What waits for others, for anything that waits: an item names the items that it needs, and is
+//! A causal delivery buffer for items of any kind: an item names the items that it needs, and is
 //! ready once each of them is there, is ready, and fits the role in which it is needed (causal
 //! delivery by explicit needs: INRIA RR-7506, operation-based objects).
 //!
-//! A move that comes before its marker waits for it:
+//! An operation that moves a marker waits for the marker:
 //!
 //! ```rust
 //! use mt_holdback::{HoldBack, Offered};
@@ -28,20 +28,20 @@
 //! ```
 //!
 //! `HoldBack` takes one item at a time and releases exactly those that became ready by it, by
-//! rising key. `Waits` is the trait of what waits, which operations implement; `laws` says what
-//! holds of every list of such items: which are ready, that more items make no ready one wait, that
-//! one which is held changes nothing for the others, and that one pass over what waits, by rising
-//! clock, finds all that became ready.
+//! rising key. `Waits` is the trait of items that wait; operations implement it. `laws` has the
+//! laws of every list of such items: which are ready, that more items never make a ready one wait,
+//! that an item that is held changes nothing for the others, and that one pass over the waiting
+//! items, by rising clock, finds all that became ready.
 //!
-//! An offer looks at that item alone, and at those that waited for what it releases. An item whose
-//! needs are met is released at once; one that waits is listed under one stamp that it lacks, the
-//! first of its needs that is not met: as long as that stamp is missing, nothing that arrives looks
-//! at the item. Once it is there the item is looked at from that need on, since a need that was met
-//! stays met, and is listed under the next that is not. What is to be looked at is taken by rising
-//! key from a sorted set, not by calls within calls, so a chain of any length is released by one
-//! loop; and as each item needs smaller clocks alone, the keys that are taken rise. So n offers
-//! with m needs in all cost (n + m) log n, in whatever order they come. Who knows that the needs of
-//! an item are met says so (`offer_ready`), and spares the search for them.
+//! An offer examines only the offered item and the items that waited for those that it releases. An
+//! item whose needs are met is released at once. One that waits is listed under one stamp that it
+//! lacks, that of its first need that is not met: as long as that stamp is missing, no arrival
+//! examines the item. Once the stamp is there the item is examined from that need on, since a need
+//! that was met stays met, and is listed under the next unmet one. The items to examine are taken
+//! by rising key from a sorted set, not by recursion, so a chain of any length is released by one
+//! loop; and as each item needs only smaller clocks, the keys that are taken rise. So n offers with
+//! m needs in all cost (n + m) log n, in any order. A caller that knows that the needs of an item
+//! are met calls `offer_ready`, which saves looking them up.
 #![tactic(auto)]
 
 mod fault;

@@ -1,4 +1,4 @@
-//! One item more.
+//! Offering one item.
 
 ghost use Rattle.std.specs.Prelude.{◌≡◌, Some, true, false, [], IsTrue, IfOk, OnOk, MatchOption};
 ghost use Rattle.std.specs.Prelude.{map};
@@ -15,7 +15,7 @@ use base_stampmap::StampIndex;
 use std::alloc::Allocator;
 use std::collections::{BTreeMap, BTreeSet};
 
-// What waits, which is made at the first item.
+// The queue of waiting items, which is created at the first offer.
 fn queue_of<T: Waits + Drop, A: Allocator + Clone>(
     alloc: &A,
     released: &[T],
@@ -36,7 +36,7 @@ fn queue_of<T: Waits + Drop, A: Allocator + Clone>(
     }
 }
 
-// Holds an item back that lacks a need, listed under the stamp that it lacks.
+// Holds an item back, listed under the stamp that it lacks.
 fn hold<T: Waits + Drop, A: Allocator + Clone>(
     alloc: &A,
     released: &[T],
@@ -59,7 +59,7 @@ fn hold<T: Waits + Drop, A: Allocator + Clone>(
     Ok(())
 }
 
-// The first need of an item that is not met, looked for where it is not known that all are.
+// The first need of an item that is not met, looked up only if `is_met` is false.
 fn lack_of<T: Waits, A: Allocator>(
     released: &[T],
     places: &StampIndex<A>,
@@ -77,9 +77,8 @@ fn lack_of<T: Waits, A: Allocator>(
     first_lack(released, places, item, 0)
 }
 
-// Releases an item whose needs are met, and wakes what waited for it; holds another back. What a
-// pass over those that wait takes and leaves from then on is what it would have with the item among
-// them.
+// Releases an item whose needs are met and wakes the items that waited for it, or holds it back. A
+// later pass over the waiting items takes and leaves the same as a pass with this item among them.
 fn admit<T: Waits + Drop, A: Allocator + Clone>(
     alloc: &A,
     released: &mut Vec<T, A>,
@@ -99,7 +98,7 @@ fn admit<T: Waits + Drop, A: Allocator + Clone>(
     }
 }
 
-// Releases what one item more makes ready, and gives back what waits from then on.
+// Takes an item, releases all that it makes ready, and returns the queue of those that still wait.
 pub(crate) fn take_in<T: Waits + Drop, A: Allocator + Clone>(
     released: &mut Vec<T, A>,
     waiting: Option<Queue<T, A>>,
@@ -111,7 +110,7 @@ pub(crate) fn take_in<T: Waits + Drop, A: Allocator + Clone>(
     ensures { IfOk result (TakenIn T.rules (contents_of released.old.items waiting) item
         released.new.items) }
 {
-    // for the proof: that it names older ones
+    // for the proof: that the item names only older ones
     let _ = item.key();
     let alloc = released.allocator().clone()?;
     let mut queue = queue_of(&alloc, released, waiting)?;

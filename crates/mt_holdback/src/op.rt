@@ -1,4 +1,4 @@
-//! Operations wait for those that they name.
+//! How operations wait.
 
 use crate::waits::Waits;
 use mt_op::{Op, Role};

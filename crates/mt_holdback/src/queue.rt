@@ -1,4 +1,4 @@
-//! What waits, each item under one stamp that it lacks.
+//! The waiting items, each listed under one stamp that it lacks.
 
 ghost use Rattle.std.specs.Prelude.{◌≡◌, ◌+◌, ◌<◌, ◌++◌, ◌||◌, is_some, ◌∷◌, [], false, true};
 ghost use Rattle.std.specs.Prelude.{length, IfOk, OnOk, IfSome, IfNone, MatchOption, IsTrue, None};
@@ -22,40 +22,40 @@ use mt_stamp::Stamp;
 use std::alloc::Allocator;
 use std::collections::{BTreeMap, BTreeSet};
 
-// An item that waits. The needs before this place were found met, and once met they stay so.
+// An item that waits. The needs before the index `met` were found met, and needs stay met.
 #[derive(Drop)]
 pub(crate) struct Waiter<T> {
     pub(crate) item: T,
     pub(crate) met: usize,
 }
 
-// What waits, by key, and how it is woken.
+// The waiting items, by key, and how they are woken.
 #[derive(Drop)]
 pub(crate) struct Queue<T, A: Allocator> {
-    // where each item that was released stands
+    // the index of each released item
     pub(crate) places: StampIndex<A>,
     pub(crate) items: BTreeMap<Stamp, Waiter<T>, A>,
     // the keys of the items that wait under a stamp that they lack
     pub(crate) lacking: BTreeMap<Stamp, Vec<Stamp, A>, A>,
-    // the keys of the items that are to be looked at
+    // the keys of the items that are to be examined
     pub(crate) woken: BTreeSet<Stamp, A>,
 }
 
-// A need that no item meets: its place among the needs, and the stamp that it names.
+// A need that no item meets: its index among the needs, and the stamp that it names.
 #[derive(Clone, Copy)]
 pub(crate) struct Lack {
     pub(crate) place: usize,
     pub(crate) stamp: Stamp,
 }
 
-// How many items wait.
+// The number of waiting items.
 pub(crate) fn count_of<T: Waits, A: Allocator>(queue: &Queue<T, A>) -> u64
     ensures { result ≡ length queue.now.items.entries }
 {
     queue.items.len() as u64
 }
 
-// Whether the item at a place has this key.
+// Whether the item at an index has this key.
 fn has_key<T: Waits>(released: &[T], place: Option<usize>, key: Stamp) -> bool
     ensures { result ≡ passes_at (λ t. stamp_eq (T.rules.key t) key) released.now place }
 {
@@ -77,7 +77,7 @@ fn was_released<T: Waits, A: Allocator>(released: &[T], places: &StampIndex<A>, 
         || has_key(released, places.other_place(key), key)
 }
 
-// Whether an item with this key was released, or waits.
+// Whether an item with this key was released or waits.
 pub(crate) fn knows_key<T: Waits, A: Allocator>(
     released: &[T],
     queue: &Queue<T, A>,
@@ -90,7 +90,7 @@ pub(crate) fn knows_key<T: Waits, A: Allocator>(
     was_released(released, &queue.places, key) || queue.items.contains_key(&key)
 }
 
-// Whether the item at a place has this stamp, and fits this role.
+// Whether the item at an index has this stamp and fits this role.
 fn meets_at<T: Waits>(released: &[T], place: Option<usize>, stamp: Stamp, role: &T::Role) -> bool
     ensures { result ≡ passes_at (meets T.rules (stamp, role.now)) released.now place }
 {
@@ -103,7 +103,7 @@ fn meets_at<T: Waits>(released: &[T], place: Option<usize>, stamp: Stamp, role: 
     }
 }
 
-// Whether an item of this stamp and role was released.
+// Whether an item with this stamp that fits this role was released.
 fn has<T: Waits, A: Allocator>(
     released: &[T],
     places: &StampIndex<A>,
@@ -117,7 +117,7 @@ fn has<T: Waits, A: Allocator>(
         || meets_at(released, places.other_place(stamp), stamp, role)
 }
 
-// The stamp of the need at a place, where no item that was released meets it.
+// The stamp of the need at an index, if no released item meets it.
 fn lacks_at<T: Waits, A: Allocator>(
     released: &[T],
     places: &StampIndex<A>,
@@ -136,7 +136,7 @@ fn lacks_at<T: Waits, A: Allocator>(
     Some(stamp)
 }
 
-// The first need from a place on that is not met.
+// The first need from this index on that is not met.
 pub(crate) fn first_lack<T: Waits, A: Allocator>(
     released: &[T],
     places: &StampIndex<A>,
@@ -156,7 +156,7 @@ pub(crate) fn first_lack<T: Waits, A: Allocator>(
     None
 }
 
-// Takes out the keys that are listed under a stamp.
+// Removes and returns the keys that are listed under a stamp.
 fn keys_under<A: Allocator + Clone>(
     alloc: &A,
     lacking: &mut BTreeMap<Stamp, Vec<Stamp, A>, A>,
@@ -194,7 +194,7 @@ pub(crate) fn put_under<A: Allocator + Clone>(
     Ok(())
 }
 
-// Notes keys that are to be looked at.
+// Adds keys to those to be examined.
 fn note_all<A: Allocator + Clone>(
     woken: &mut BTreeSet<Stamp, A>,
     keys: Vec<Stamp, A>,
@@ -210,7 +210,7 @@ fn note_all<A: Allocator + Clone>(
     Ok(())
 }
 
-// Notes that all that is listed under a stamp is to be looked at, and lists it there no more.
+// Moves all keys that are listed under a stamp to those to be examined.
 fn wake<A: Allocator + Clone>(
     alloc: &A,
     lacking: &mut BTreeMap<Stamp, Vec<Stamp, A>, A>,
@@ -230,7 +230,7 @@ fn wake<A: Allocator + Clone>(
     note_all(woken, keys)
 }
 
-// Takes out the least of the keys that are to be looked at.
+// Removes and returns the least of the keys to be examined.
 fn next_woken<A: Allocator>(woken: &mut BTreeSet<Stamp, A>) -> Option<Stamp>
     ensures least { IfSome result (λ key. (q : Stamp) → IsTrue (contains stamp_cmp woken.old q)
         → is_gt (stamp_cmp key q) ≡ false) }
@@ -244,8 +244,8 @@ fn next_woken<A: Allocator>(woken: &mut BTreeSet<Stamp, A>) -> Option<Stamp>
     woken.pop_first()
 }
 
-// The next item that is ready, of those that are to be looked at, by rising key. The others are
-// listed under what they lack.
+// The next ready one of the items to be examined, by rising key. The others are listed under what
+// they lack.
 fn next_ready<T: Waits + Drop, A: Allocator + Clone>(
     alloc: &A,
     released: &[T],
@@ -271,7 +271,7 @@ fn next_ready<T: Waits + Drop, A: Allocator + Clone>(
     Ok(None)
 }
 
-// Releases an item, and wakes what waited for it.
+// Releases an item, and wakes the items that waited for it.
 pub(crate) fn release<T: Waits + Drop, A: Allocator + Clone>(
     alloc: &A,
     released: &mut Vec<T, A>,
@@ -291,7 +291,7 @@ pub(crate) fn release<T: Waits + Drop, A: Allocator + Clone>(
     Ok(())
 }
 
-// Looks at what is to be looked at, and releases what is ready, until nothing is to be looked at.
+// Examines the woken items and releases the ready ones, until none is left to examine.
 pub(crate) fn settle<T: Waits + Drop, A: Allocator + Clone>(
     alloc: &A,
     released: &mut Vec<T, A>,

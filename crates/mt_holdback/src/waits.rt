@@ -1,30 +1,30 @@
-//! The trait of what waits.
+//! The trait of items that wait.
 
 ghost use Rattle.std.specs.Prelude.{◌≡◌, length, slice_get};
 ghost use Rattle.mt_holdback.specs.Waiting.{Rules, NamesOlder};
 
 use mt_stamp::Stamp;
 
-/// What may have to wait for others: it has a stamp of its own, and needs the items of other
-/// stamps, each in a role.
+/// An item that may have to wait for others: it has a stamp, and needs the items of other stamps,
+/// each in a role.
 pub trait Waits {
-    /// What an item may be needed as.
+    /// The roles in which an item may be needed.
     type Role: Drop;
 
-    /// What its items wait by.
+    /// The stamps, needs and roles of the items.
     ghost rules: { Rules Self Self.Role };
 
-    /// The item's own stamp. Each stamp that it needs has a smaller clock.
+    /// The item's stamp. Each stamp that it needs has a smaller clock.
     fn key(&self) -> Stamp
         ensures value { result ≡ rules.key self.now }
         ensures older { NamesOlder rules self.now };
 
-    /// How many needs it has.
+    /// The number of its needs.
     fn need_count(&self) -> usize
         ensures { result ≡ length (rules.needs self.now) };
 
-    /// The need at place `i`, counted from 0: the stamp of the item that it needs, and the role in
-    /// which it needs that one. `None` where `i` is `need_count()` or more.
+    /// The need with index `i`, counted from 0: the stamp of the item that it needs, and the role
+    /// in which it needs that item. `None` if `i` is `need_count()` or more.
     fn need(&self, i: usize) -> Option<(Stamp, Self::Role)>
         ensures { result ≡ slice_get (rules.needs self.now) i };
 

@@ -1,4 +1,4 @@
--- What a body in memory says.
+-- The act of a body in memory, and the body of an act.
 use Rattle.std.specs.Prelude.{Bool, true, false}
 use Rattle.mt_op.specs.declared.body.Body.{Body as BodyFields}
 use Rattle.mt_op.specs.declared.body.Body.TheVariants as body
@@ -38,7 +38,7 @@ body_of (Retitle item title) = body.Retitle item title
 body_of (SetFade clip fade_in fade_out) = body.SetFade clip fade_in fade_out
 body_of (SetMarkerLength marker len) = body.SetMarkerLength marker len
 
--- whether an act's fields are of a fixed size, which all are but titles and tags (profile)
+-- whether an act's fields have a fixed size: all but titles and tags (profile)
 abbrev pub is_fixed_size : Body → Bool
 is_fixed_size (AddTrack after title) = false
 is_fixed_size (Remove item tags) = false

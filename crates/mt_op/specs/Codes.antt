@@ -1,4 +1,4 @@
--- By what values are told apart, where a finite map holds them.
+-- Codes of operations and of their parts, which distinguish values in a finite map.
 use Rattle.std.specs.Prelude.{◌≡◌, ℕ, Bool, List, Option, ◌⊎◌, refl}
 use Rattle.std.specs.Coded.{Coded, code_by, coded×, coded⊎, coded_ℕ, coded_bool, coded_list}
 use Rattle.std.specs.Coded.{coded_option}
@@ -24,7 +24,7 @@ ratio_code = code_by (ℕ × ℕ) (coded× coded_ℕ coded_ℕ) (λ g. (g.num, g
 abbrev digest_code : Coded Digest
 digest_code = code_by Text text_code (λ d. d.0) (λ bytes. record { 0 = bytes }) (λ _. refl)
 
--- the fields of the acts on tracks, on clips, on either, and on any item
+-- the fields of the acts on tracks, on clips, on either of these, and on any item
 abbrev OfTracks : Type 0
 OfTracks = (Option Stamp × Text) ⊎ (Stamp × Option Stamp)
 
@@ -38,7 +38,7 @@ abbrev OfItems : Type 0
 OfItems = (Stamp × List Stamp) ⊎ (Stamp ⊎ ((ℕ × Text)
     ⊎ ((Stamp × ℕ) ⊎ ((Stamp × Text) ⊎ ((Stamp × (ℕ × ℕ)) ⊎ (Stamp × ℕ))))))
 
--- an act by the place of its case and its fields
+-- the fields of an act, in a sum that distinguishes the cases
 abbrev Fields : Type 0
 Fields = OfTracks ⊎ (OfClips ⊎ (OfSounds ⊎ OfItems))
 

@@ -1,4 +1,4 @@
--- The number of each refusal.
+-- The number of each error.
 use Rattle.std.specs.Prelude.{ℕ}
 use Rattle.mt_op.specs.declared.fault.OpFault.{OpFault}
 use Rattle.mt_op.specs.declared.fault.OpFault.TheVariants.{Memory, NameNotOlder, ZeroLength}

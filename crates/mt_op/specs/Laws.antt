@@ -1,4 +1,4 @@
--- What holds of every set of operations.
+-- Laws of every set of operations.
 use Rattle.std.specs.Prelude.{◌≡◌, ◌↔◌, ℕ, true, false, List, [], Option, Some, None, IsTrue}
 use Rattle.std.specs.List.{AllByRecursion, Contains, slice_get}
 use Rattle.std.specs.Ordering.{is_lt}
@@ -11,42 +11,42 @@ use Rattle.mt_op.specs.OpValue.{Body, Op}
 use Rattle.mt_op.specs.Needs.{needs, meets, clock_of, names_are_older}
 use Rattle.mt_op.specs.Ready.{is_ready, IsTheOnlyReady}
 
--- Where every operation names older ones, ready is the only set that satisfies its rule.
+-- If every operation names only older ones, readiness is the only test that satisfies its rule.
 abbrev pub ReadyIsDefined : Type 0
 ReadyIsDefined = (s : List Op) → AllByRecursion (λ o. IsTrue (names_are_older o)) s
     → IsTheOnlyReady clock_of needs meets s
 
--- What is ready among some operations is ready among more of them.
+-- Readiness is monotonic: what is ready in a set of operations is ready in every larger set.
 abbrev pub ReadyAmongMore : Type 0
 ReadyAmongMore = (some more : List Op) → ((o : Op) → Contains some o → Contains more o) → (o : Op)
     → is_ready clock_of needs meets some o ≡ true → is_ready clock_of needs meets more o ≡ true
 
--- it is one of the writes, and no write is by a greater stamp
+-- w is one of the writes, and no write has a greater stamp
 pub record IsLatest {X : Type 0} (ws : List (Written X)) (w : Written X) : Type 0 where
   pub place : ℕ
   pub is : slice_get ws place ≡ Some w
   pub greatest : AllByRecursion (λ v. is_lt (stamp_cmp w.writer v.writer) ≡ false) ws
 
--- The last write of several is the one with the greatest stamp, and there is one wherever there is
--- a write.
+-- The last write of a list of writes is the one with the greatest stamp. There is one unless the
+-- list is empty.
 abbrev pub LatestIsGreatest : Type 0 → Type 0
 LatestIsGreatest X = ((ws : List (Written X)) (w : Written X) → latest ws ≡ Some w → IsLatest ws w)
     × ((ws : List (Written X)) → latest ws ≡ None → ws ≡ [])
 
--- `make` makes the values of a field. An act writes at most one of them, and `field` tells that one
--- and its item.
+-- `make` makes a value of a field. An act writes at most one value of that field, and `field` gives
+-- this value and its item.
 pub record IsFieldOf {X : Type 0} (make : X → Value) (field : Stamp → Body → Option (Write X)) :
     Type 0 where
-  -- what is told is written
+  -- what `field` gives is written
   pub written : (own : Stamp) (act : Body) (w : Write X) → field own act ≡ Some w
       → Contains (writes own act) (sets w.item (make w.value))
-  -- what is written is told
+  -- `field` gives what is written
   pub only : (own : Stamp) (act : Body) (item : Stamp) (value : X)
       → Contains (writes own act) (sets item (make value)) → field own act
       ≡ Some (record { item = item; value = value })
 
--- one of the operations writes it to this item's field, and no operation with a greater stamp
--- writes there
+-- one of the operations writes this value to this item's field, and no operation that writes there
+-- has a greater stamp
 pub record IsLastWrite {X : Type 0} (make : X → Value) (item : Stamp) (ops : List Op)
     (w : Written X) : Type 0 where
   pub operation : Op
@@ -58,7 +58,7 @@ pub record IsLastWrite {X : Type 0} (make : X → Value) (item : Stamp) (ops : L
       → is_lt (stamp_cmp w.writer o.stamp) ≡ false
 
 -- The last write of an item's field is by the operation with the greatest stamp of those that write
--- there, and there is one wherever an operation writes there.
+-- there. There is one if any operation writes there.
 pub record LastWriteIsGreatest {X : Type 0} (make : X → Value)
     (field : Stamp → Body → Option (Write X)) : Type 0 where
   pub is_last : (item : Stamp) (ops : List Op) (w : Written X) → last_write field item ops ≡ Some w
@@ -67,7 +67,8 @@ pub record LastWriteIsGreatest {X : Type 0} (make : X → Value)
       → (o : Op) (value : X) → Contains ops o → Contains (writes o.stamp o.act)
       (sets item (make value)) → ⊥
 
--- The live tags of an item are listed, and it is present where one of its tags is live.
+-- `live_tags` lists exactly the live tags of an item, and the item is present if and only if one of
+-- its tags is live.
 pub record PresenceIsOfTags : Type 0 where
   pub live : (item : Stamp) (ops : List Op) (tag : Stamp) → is_listed (live_tags item ops) tag
       ≡ is_live (is_listed (tags item ops)) (is_listed (removed_tags item ops)) tag

@@ -1,5 +1,5 @@
--- What an operation waits for, and what it may be waited for as (the precondition of an update:
--- INRIA RR-7506, operation-based objects).
+-- The needs of an operation, and the roles that it fits (the precondition of an update: INRIA
+-- RR-7506, operation-based objects).
 use Rattle.std.specs.Prelude.{ℕ, Bool, true, false, List, [], ◌∷◌, Option, Some, None, map, nat_lt}
 use Rattle.std.specs.Prelude.{◌&&◌}
 use Rattle.std.specs.List.{list_all}
@@ -16,7 +16,7 @@ use Rattle.mt_op.specs.OpValue.{SetMarkerLength, Op}
 abbrev pub need_of : Role → Stamp → Need
 need_of role stamp = record { stamp = stamp; role = role }
 
--- the place that a track is put after, where it is not the head
+-- the need of the place that a track is put after; none at the head
 abbrev pub place_needs : Option Stamp → List Need
 place_needs None = []
 place_needs (Some after) = need_of Place after ∷ []
@@ -41,7 +41,7 @@ needs_of (SetMarkerLength marker len) = need_of Marker marker ∷ []
 abbrev pub needs : Op → List Need
 needs o = needs_of o.act
 
--- the acts of each role but that of a tag (profile)
+-- the acts that fit each role except `TagOf` (profile)
 abbrev pub adds_track : Body → Bool
 adds_track (AddTrack after title) = true
 adds_track _ = false
@@ -59,27 +59,27 @@ abbrev pub adds_marker : Body → Bool
 adds_marker (AddMarker at title) = true
 adds_marker _ = false
 
--- an item that has a gain and can be muted
+-- the acts that add an item with a gain and a mute
 abbrev pub adds_mixable : Body → Bool
 adds_mixable (AddTrack after title) = true
 adds_mixable (AddClip source track at offset len) = true
 adds_mixable _ = false
 
--- an item that has a title
+-- the acts that add an item with a title
 abbrev pub adds_titled : Body → Bool
 adds_titled (AddTrack after title) = true
 adds_titled (AddMarker at title) = true
 adds_titled _ = false
 
--- an item, which the operation's own stamp names from then on
+-- the acts that add an item, which the operation's own stamp names from then on
 abbrev pub adds_item : Body → Bool
 adds_item (AddTrack after title) = true
 adds_item (AddClip source track at offset len) = true
 adds_item (AddMarker at title) = true
 adds_item _ = false
 
--- whether an operation is a tag of an item: what adds the item, under its own stamp, and each
--- Restore of it (profile)
+-- whether an operation is a tag of an item: the operation that adds the item, under its own stamp,
+-- and each Restore of it (profile)
 abbrev pub is_tag_of : Stamp → Stamp → Body → Bool
 is_tag_of item own (AddTrack after title) = stamp_eq own item
 is_tag_of item own (AddClip source track at offset len) = stamp_eq own item
@@ -87,7 +87,7 @@ is_tag_of item own (AddMarker at title) = stamp_eq own item
 is_tag_of item own (Restore i) = stamp_eq i item
 is_tag_of item own _ = false
 
--- whether an act may stand in a role, `own` being the operation's stamp (profile)
+-- whether an act fits a role, `own` being the operation's stamp (profile)
 abbrev pub act_fits : Role → Stamp → Body → Bool
 act_fits Track own act = adds_track act
 act_fits Place own act = adds_place act
@@ -104,10 +104,10 @@ fits role o = act_fits role o.stamp o.act
 abbrev pub clock_of : Op → ℕ
 clock_of o = o.stamp.clock
 
--- Every stamp that the operation names has a smaller clock than its own.
+-- whether every stamp that the operation names has a smaller clock than its own
 abbrev pub names_are_older : Op → Bool
 names_are_older o = list_all (λ (need : Need). nat_lt need.stamp.clock o.stamp.clock) (needs o)
 
--- Whether an operation is the one that a need names: by its whole stamp and its role.
+-- whether an operation meets a need: by its whole stamp and its role
 abbrev pub meets : Need → Op → Bool
 meets need o = stamp_eq need.stamp o.stamp && fits need.role o

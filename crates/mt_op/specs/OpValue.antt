@@ -1,13 +1,13 @@
--- What an operation says, without where its texts lie in memory. Of the table of acts the fields
--- stand here, what they need, which roles they fit and which tags they give in Needs, what they
--- write in Writes, and which tags they remove in Presence.
+-- The value of an operation, independent of where its texts are in memory. The table of acts is
+-- spread over four files: the fields are here; needs, roles and the tags given are in Needs; what
+-- an act writes is in Writes; the tags that it removes are in Presence.
 use Rattle.std.specs.Prelude.{ℕ, Bool, List, Option}
 use Rattle.mt_stamp.specs.StampOrder.{Stamp}
 use Rattle.mt_op.specs.Gain.{Gain}
 use Rattle.mt_op.specs.declared.digest.Digest.{Digest}
 
 -- What an operation does to the session (profile). Positions, offsets and lengths are in frames;
--- `after` names a place of the track order, and none is its head.
+-- `after` names a place of the track order, or the head if there is none.
 pub data Body : Type 0 where
   AddTrack : (after : Option Stamp) (title : List ℕ) → Body
   MoveTrack : (track : Stamp) (after : Option Stamp) → Body
@@ -24,8 +24,8 @@ pub data Body : Type 0 where
   SetFade : (clip : Stamp) (fade_in fade_out : ℕ) → Body
   SetMarkerLength : (marker : Stamp) (len : ℕ) → Body
 
--- An operation of an operation-based replicated type (INRIA RR-7506, operation-based objects): who
--- made it when, and what it does.
+-- An operation of an operation-based replicated type (INRIA RR-7506, operation-based objects): its
+-- stamp and what it does.
 pub record Op : Type 0 where
   pub stamp : Stamp
   pub act : Body

@@ -1,4 +1,4 @@
--- Why a stamp and an act are no operation (profile).
+-- Why a stamp and an act are not an operation (profile).
 use Rattle.std.specs.Prelude.{not, Result, Ok, Err, if◌then◌else◌}
 use Rattle.mt_op.specs.declared.fault.OpFault.{OpFault}
 use Rattle.mt_op.specs.declared.fault.OpFault.TheVariants.{NameNotOlder, ZeroLength, FadeTooLong}
@@ -7,7 +7,7 @@ use Rattle.mt_op.specs.OpValue.{Op}
 use Rattle.mt_op.specs.Needs.{names_are_older}
 use Rattle.mt_op.specs.Valid.{length_is_good, fades_are_good, tags_are_good}
 
--- the operation, or the first reason why it is none
+-- the operation, or the first reason why it is not one
 abbrev pub op_or_fault : Op → Result Op OpFault
 op_or_fault o =
     if not (names_are_older o) then Err NameNotOlder

@@ -1,4 +1,4 @@
--- Which operations there are: their parts are in range and they name older stamps.
+-- Valid operations: their parts are in range and they name only older stamps.
 use Rattle.std.specs.Prelude.{◌<◌, ◌≤◌, ◌^◌, ℕ, Bool, true, IsTrue, IfSome, nat_le, ◌&&◌}
 use Rattle.std.specs.List.{AllByRecursion}
 use Rattle.mt_stamp.specs.StampOrder.{IsStamp}
@@ -12,17 +12,18 @@ use Rattle.mt_op.specs.OpValue.{SetMute, Remove, Restore, AddMarker, MoveMarker,
 use Rattle.mt_op.specs.OpValue.{SetMarkerLength, Op}
 use Rattle.mt_op.specs.Needs.{names_are_older}
 
--- whether a clip keeps at least one frame; no other act gives a length (profile)
+-- whether the length that an act gives a clip is at least one frame; no other act gives a length
+-- (profile)
 abbrev pub length_is_good : Body → Bool
 length_is_good (AddClip source track at offset len) = nat_le 1 len
 length_is_good (TrimClip clip offset len) = nat_le 1 len
 length_is_good _ = true
 
--- how many frames a fade may last (profile)
+-- the greatest length of a fade, in frames (profile)
 abbrev pub longest_fade : ℕ
 longest_fade = 1048576
 
--- whether no fade lasts longer; no other act gives any (profile)
+-- whether no fade is longer than that; no other act gives fades (profile)
 abbrev pub fades_are_good : Body → Bool
 fades_are_good (SetFade clip fade_in fade_out) = nat_le fade_in longest_fade
     && nat_le fade_out longest_fade
@@ -32,8 +33,8 @@ pub record AreShort (fades : FadeLengths) : Type 0 where
   pub fade_in : fades.fade_in ≤ longest_fade
   pub fade_out : fades.fade_out ≤ longest_fade
 
--- whether the tags of a Remove are in order, from one to the greatest count; no other act has any
--- (profile)
+-- whether the tags of a Remove strictly rise and are from one to the greatest count; no other act
+-- has tags (profile)
 abbrev pub tags_are_good : Body → Bool
 tags_are_good (Remove item tags) = are_tags tags
 tags_are_good _ = true

@@ -1,5 +1,5 @@
--- What an operation writes, and the value that the last writer gave (LWW-Register: INRIA RR-7506,
--- section 3.2.1).
+-- What an operation writes, and the last write of a field (LWW-Register: INRIA RR-7506, section
+-- 3.2.1).
 use Rattle.std.specs.Prelude.{ℕ, Bool, false, List, [], ◌∷◌, Option, Some, None, if◌then◌else◌}
 use Rattle.std.specs.List.{filter_map}
 use Rattle.mt_stamp.specs.StampOrder.{Stamp}
@@ -14,27 +14,27 @@ use Rattle.mt_op.specs.OpValue.{SetMute, AddMarker, MoveMarker, Remove, Restore,
 use Rattle.mt_op.specs.OpValue.{SetMarkerLength, Op}
 use Rattle.mt_op.specs.Needs.{stamp_eq}
 
--- a value of a field: the fields of tracks, of clips and of markers (profile)
+-- a value of a field of a track, a clip or a marker (profile)
 pub data Value : Type 0 where
   Title : List ℕ → Value
   GainWritten : Gain → Value
   Mute : Bool → Value
-  -- the place that a track stands after, none for the head
+  -- the place that a track is put after, none for the head
   TrackPlace : Option Stamp → Value
-  -- the track that a clip is on, and at which frame of the session
+  -- the track of a clip, and the frame of the session at which it begins
   ClipPlace : Placement → Value
-  -- the first frame of the recording that a clip plays, and how many it plays
+  -- the first frame of the recording that a clip plays, and the number of frames
   Trim : TrimRange → Value
   -- the recording that a clip plays
   Source : Digest → Value
-  -- the frame of the session at which a marker stands
+  -- the frame of the session at which a marker is
   Position : ℕ → Value
-  -- over how many frames a clip fades in and out
+  -- the lengths of a clip's fade-in and fade-out in frames
   Fades : FadeLengths → Value
-  -- how many frames a marker spans, 0 for a point
+  -- the length of a marker in frames, 0 for a point
   MarkerLength : ℕ → Value
 
--- a value for one field of an item
+-- a write: a value for one field of an item
 pub record Write (X : Type 0) : Type 0 where
   pub item : Stamp
   pub value : X
@@ -42,11 +42,11 @@ pub record Write (X : Type 0) : Type 0 where
 abbrev pub sets : Stamp → Value → Write Value
 sets item value = record { item = item; value = value }
 
--- the fades of a clip that is added
+-- the fades of a clip when it is added
 abbrev pub no_fades : FadeLengths
 no_fades = record { fade_in = 0; fade_out = 0 }
 
--- the item that an operation adds or names, which is all that it changes (profile)
+-- the item that an operation adds or names; it changes no other item (profile)
 abbrev pub op_item : Stamp → Body → Stamp
 op_item own (MoveTrack track after) = track
 op_item own (MoveClip clip track at) = clip
@@ -61,7 +61,7 @@ op_item own (SetFade clip fade_in fade_out) = clip
 op_item own (SetMarkerLength marker len) = marker
 op_item own _ = own
 
--- what each act writes, `own` being the operation's stamp (profile)
+-- what each act writes; `own` is the operation's stamp (profile)
 abbrev pub writes : Stamp → Body → List (Write Value)
 writes own (AddTrack after title) = sets own (TrackPlace after) ∷ sets own (Title title)
     ∷ sets own (GainWritten unchanged) ∷ sets own (Mute false) ∷ []
@@ -84,7 +84,7 @@ writes own (SetFade clip fade_in fade_out) = sets clip
 writes own (SetMarkerLength marker len) = sets marker (MarkerLength len) ∷ []
 writes own _ = []
 
--- the first of several values that is one of a field
+-- the first of several writes whose value is of a given field
 abbrev pub or_later : {X : Type 0} → Stamp → Option X → Option (Write X) → Option (Write X)
 or_later item None rest = rest
 or_later item (Some value) rest = Some (record { item = item; value = value })
@@ -93,7 +93,7 @@ abbrev pub first_of : {X : Type 0} → (Value → Option X) → List (Write Valu
 first_of one_of [] = None
 first_of one_of (w ∷ ws) = or_later w.item (one_of w.value) (first_of one_of ws)
 
--- whether a value is one of a field
+-- the value, if it is of this field
 abbrev pub title_in : Value → Option (List ℕ)
 title_in (Title title) = Some title
 title_in _ = None
@@ -134,7 +134,7 @@ abbrev pub marker_length_in : Value → Option ℕ
 marker_length_in (MarkerLength len) = Some len
 marker_length_in _ = None
 
--- the item whose field an act writes, and the value
+-- what an act writes to this field: the item and the value
 abbrev pub title_written : Stamp → Body → Option (Write (List ℕ))
 title_written own act = first_of title_in (writes own act)
 
@@ -165,12 +165,12 @@ fades_written own act = first_of fades_in (writes own act)
 abbrev pub marker_length_written : Stamp → Body → Option (Write ℕ)
 marker_length_written own act = first_of marker_length_in (writes own act)
 
--- the later of two by their writers, the second where they tie
+-- the write with the greater writer, the second one of a tie
 abbrev pub later : {X : Type 0} → Written X → Option (Written X) → Option (Written X)
 later w None = Some w
 later w (Some v) = Some (greater writer_cmp v w)
 
--- the one with the greatest writer
+-- the write with the greatest writer
 abbrev pub latest : {X : Type 0} → List (Written X) → Option (Written X)
 latest [] = None
 latest (w ∷ ws) = later w (latest ws)
@@ -185,6 +185,6 @@ module _ {X : Type 0} (field : Stamp → Body → Option (Write X)) where
   abbrev pub written_by : Stamp → Op → Option (Written X)
   written_by item o = kept item o.stamp (field o.stamp o.act)
 
-  -- the last writer of an item's field among these operations
+  -- the last write of an item's field by these operations
   abbrev pub last_write : Stamp → List Op → Option (Written X)
   last_write item ops = latest (filter_map (written_by item) ops)

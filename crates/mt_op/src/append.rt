@@ -1,4 +1,4 @@
-//! Stamps and digests behind a text.
+//! Appending stamps and digests to a text.
 
 ghost use Rattle.std.specs.Prelude.{◌≡◌, ◌++◌, OnOk};
 ghost use Rattle.std.specs.String.{string_bytes};
@@ -9,7 +9,7 @@ use crate::digest::Digest;
 use mt_stamp::Stamp;
 use std::alloc::{AllocError, Allocator};
 
-/// Appends a label and a stamp. On `AllocError` the text may have a part of them.
+/// Appends a label and a stamp. On `AllocError` the text may end in a part of them.
 pub fn append_stamp<A: Allocator>(
     text: &mut String<A>,
     label: &str,
@@ -22,8 +22,8 @@ pub fn append_stamp<A: Allocator>(
     stamp.append_text(text)
 }
 
-/// Appends a label and a digest in hex digits, which take memory of `alloc` for as long as the call
-/// lasts. On `AllocError` the text may have the label alone.
+/// Appends a label and a digest in hex digits. The digits use memory from `alloc` until the call
+/// returns. On `AllocError` the text may end in the label alone.
 pub fn append_digest<A: Allocator, B: Allocator>(
     alloc: &A,
     text: &mut String<B>,

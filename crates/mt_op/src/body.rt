@@ -23,16 +23,15 @@ pub const LONGEST_FADE: u32 = 1_048_576;
 #[derive(Drop)]
 #[derive_where(PartialEq, Eq)]
 pub enum Body<A: Allocator = Global> {
-    /// Adds a track at a place of its own: after the place `after`, or at the head, and before all
-    /// places that were put there with smaller stamps. The place has the operation's stamp. The
-    /// track's gain is 1/1, and it is not muted.
+    /// Adds a track at a new place: after the place `after`, or at the head, and before all places
+    /// that were put there with smaller stamps. The place has the operation's stamp. The track's
+    /// gain is 1/1, and it is not muted.
     AddTrack {
         after: Option<Stamp>,
         title: Title<A>,
     },
-    /// Moves a track to another place of its own: after the place `after`, or at the head, and
-    /// before all places that were put there with smaller stamps. The place has the operation's
-    /// stamp.
+    /// Moves a track to a new place: after the place `after`, or at the head, and before all places
+    /// that were put there with smaller stamps. The place has the operation's stamp.
     MoveTrack {
         track: Stamp,
         after: Option<Stamp>,
@@ -47,24 +46,24 @@ pub enum Body<A: Allocator = Global> {
         offset: u32,
         len: u32,
     },
-    /// Moves a clip to frame `at` of the session, on a track, which may be the one that it is on.
+    /// Moves a clip to frame `at` of the session, on the same track or on another one.
     MoveClip {
         clip: Stamp,
         track: Stamp,
         at: u32,
     },
-    /// Lets a clip play `len` frames of its recording, at least 1, from its frame `offset` on.
+    /// Makes a clip play `len` frames of its recording, at least 1, from its frame `offset` on.
     TrimClip {
         clip: Stamp,
         offset: u32,
         len: u32,
     },
-    /// Gives a track or a clip another gain.
+    /// Sets the gain of a track or a clip.
     SetGain {
         item: Stamp,
         gain: Gain,
     },
-    /// Mutes a track or a clip, or lets it sound again.
+    /// Mutes a track or a clip (`on`), or unmutes it.
     SetMute {
         item: Stamp,
         on: bool,
@@ -75,11 +74,11 @@ pub enum Body<A: Allocator = Global> {
         item: Stamp,
         tags: List<Stamp, A>,
     },
-    /// Gives an item another tag: the operation's own stamp. It brings a removed item back.
+    /// Adds a tag to an item: the operation's own stamp. This brings a removed item back.
     Restore {
         item: Stamp,
     },
-    /// Adds a marker at frame `at` of the session, a point: its length is 0.
+    /// Adds a marker at frame `at` of the session. It is a point: its length is 0.
     AddMarker {
         at: u32,
         title: Title<A>,
@@ -89,27 +88,27 @@ pub enum Body<A: Allocator = Global> {
         marker: Stamp,
         at: u32,
     },
-    /// Gives a track or a marker another title.
+    /// Sets the title of a track or a marker.
     Retitle {
         item: Stamp,
         title: Title<A>,
     },
-    /// Lets a clip fade in over its first `fade_in` frames and out over its last `fade_out`, each
-    /// at most `LONGEST_FADE`; 0 is no fade. Both may be longer than the clip, whose end then cuts
-    /// them.
+    /// Sets the fades of a clip: it fades in over its first `fade_in` frames and out over its last
+    /// `fade_out` frames. Each is at most `LONGEST_FADE`; 0 is no fade. A fade may be longer than
+    /// the clip, whose end then cuts it off.
     SetFade {
         clip: Stamp,
         fade_in: u32,
         fade_out: u32,
     },
-    /// Lets a marker span `len` frames from its position on; 0 is a point.
+    /// Sets the length of a marker: it spans `len` frames from its position on; 0 is a point.
     SetMarkerLength {
         marker: Stamp,
         len: u32,
     },
 }
 
-// Whether the clock of a stamp, where there is one, is smaller than this one.
+// Whether this stamp, if there is one, has a smaller clock.
 fn is_older(stamp: Option<Stamp>, clock: u64) -> bool
     ensures older { result ≡ list_all (λ (need : Need). nat_lt need.stamp.clock clock)
         (place_needs stamp) }
@@ -134,7 +133,8 @@ impl<A: Allocator> Body<A> {
         ensures stamp { IsStamp stamp }
         ensures fields { IsTrue result → AreFields (act_of self.now) }
     {
-        // for the proof: the reads that are let go bring the ranges of what is read
+        // for the proof: reading a field gives the range of its value, even where the value is
+        // dropped
         let clock = stamp.clock();
         match self {
             Body::AddTrack { after, title } => {
@@ -195,7 +195,7 @@ impl<A: Allocator> Body<A> {
         }
     }
 
-    // Whether the length that the body gives a clip, if it gives one, is at least 1.
+    // Whether the length that the body gives a clip, if any, is at least 1.
     pub(crate) fn length_is_good(&self) -> bool
         ensures { result ≡ length_is_good (act_of self.now) }
     {
@@ -205,7 +205,7 @@ impl<A: Allocator> Body<A> {
         }
     }
 
-    // Whether no fade that the body gives a clip lasts too long.
+    // Whether every fade that the body gives a clip is at most `LONGEST_FADE`.
     pub(crate) fn fades_are_good(&self) -> bool
         ensures { result ≡ fades_are_good (act_of self.now) }
     {
@@ -219,7 +219,7 @@ impl<A: Allocator> Body<A> {
         }
     }
 
-    // Whether the tags of a Remove are in order, and as many as it may list.
+    // Whether the tags of a Remove are rising and from 1 to 65,535.
     pub(crate) fn tags_are_good(&self) -> bool
         ensures { result ≡ tags_are_good (act_of self.now) }
     {
@@ -229,9 +229,8 @@ impl<A: Allocator> Body<A> {
         }
     }
 
-    /// An equal body, on a clone of the allocator. Refused as `Memory` (0) where the clone of its
-    /// title or its tags gets no memory, and for nothing else: a body that has neither is never
-    /// refused.
+    /// An equal body, on a clone of the allocator. The only error is `Memory` (0): the clone of its
+    /// title or of its tags could not be allocated. Copying a body with neither always succeeds.
     pub fn try_clone(&self) -> Result<Self, OpFault>
     where
         A: Clone,

@@ -16,7 +16,7 @@ use std::alloc::Allocator;
 #[derive(Clone, Copy, Debug, PartialEq, Eq, PartialOrd, Ord, Hash)]
 pub struct Digest(pub [u8; 32]);
 
-// What a slice of bytes holds.
+// Every byte of a slice is below 256.
 fn are_bytes(bytes: &[u8])
     ensures { IsBytes bytes.now }
 {}
@@ -29,7 +29,7 @@ impl Digest {
         Digest(sha256_of(bytes))
     }
 
-    // The bytes: thirty-two of them.
+    // The 32 bytes.
     pub(crate) fn bytes(&self) -> &[u8]
         ensures value { result.now ≡ self.now.0 }
         ensures valid { IsDigest self.now }
@@ -38,8 +38,8 @@ impl Digest {
         &self.0
     }
 
-    /// Reads a digest of 64 hex digits, each in either case. Every other text is refused as
-    /// `BadDigest` (50).
+    /// Reads a digest of 64 hex digits, each in either case. Any other text fails with `BadDigest`
+    /// (50).
     pub fn read(text: &str) -> Result<Digest, OpFault>
         ensures value { IfOk result (λ d. decode_of text.now ≡ Ok d.0) }
         ensures bad_digest { IsErrOf result OpFault.BadDigest ↔ (is_digest_text text.now ≡ false) }
@@ -52,7 +52,7 @@ impl Digest {
         }
     }
 
-    /// The digest as 64 hex digits in lower case. Refused only as `Memory` (0).
+    /// The digest as 64 hex digits in lower case. The only error is `Memory` (0): out of memory.
     pub fn text<A: Allocator>(&self, alloc: A) -> Result<String<A>, OpFault>
         ensures ok { IfOk result (λ text. string_bytes text ≡ digest_text self.now) }
         ensures err { IfErr result (λ fault. fault ≡ OpFault.Memory) }

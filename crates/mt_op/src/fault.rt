@@ -1,4 +1,4 @@
-//! Why an operation or a part of it could not be made.
+//! Why an operation, or a part of one, could not be made.
 
 ghost use Rattle.std.specs.Prelude.{◌≡◌};
 ghost use Rattle.mt_op.specs.Faults.{number_of};
@@ -7,7 +7,7 @@ ghost use Rattle.mt_op.specs.declared.fault.OpFault.TheVariants.{Memory};
 use std::alloc::AllocError;
 use thiserror::Error;
 
-/// Why an operation, or a part of one, could not be made. Each refusal has a number that never
+/// Why an operation, or a part of one, could not be made. Each error has a number that never
 /// changes.
 #[derive(Clone, Copy, Debug, PartialEq, Eq, Error)]
 pub enum OpFault {
@@ -30,7 +30,7 @@ pub enum OpFault {
 }
 
 impl OpFault {
-    /// The refusal's number: 0, 5, 6, 7, 43, 44, 50 or 51.
+    /// The error's number: 0, 5, 6, 7, 43, 44, 50 or 51.
     pub fn number(&self) -> u8
         ensures { result ≡ number_of self.now }
     {

@@ -8,9 +8,9 @@ use mt_stamp::Dot;
 use std::alloc::Allocator;
 use std::cmp::Ordering;
 
-// Where the operation with a dot stands if the numbers of its replica have no gap: as far from the
-// operation `met` at a place as their numbers are apart. `None` where that one is of another
-// replica, and after a guess that did not meet it.
+// Where the operation with a dot is if the numbers of its replica have no gap: as far from the
+// operation `met` at `place` as their numbers are apart. `None` if `met` is of another replica, and
+// after a guess that did not find it.
 fn next_guess(guess: Option<usize>, place: usize, met: Dot, dot: Dot) -> Option<usize> {
     if guess.is_some() || met.replica != dot.replica {
         return None;
@@ -22,7 +22,7 @@ fn next_guess(guess: Option<usize>, place: usize, met: Dot, dot: Dot) -> Option<
     }
 }
 
-// The place to look at next: the one that is guessed, where it is between these two, or the middle.
+// The index to look at next: the guess, if it is within the range, or the middle.
 fn next_probe(low: usize, high: usize, guess: Option<usize>) -> usize
     requires { low < high }
     ensures from { low ≤ result }
@@ -34,15 +34,15 @@ fn next_probe(low: usize, high: usize, guess: Option<usize>) -> usize
     }
 }
 
-/// The place, counted from 0, of the operation with this dot. Where no operation has it, the error
-/// is the place at which one with this dot would go: smaller dots stand before it, and greater ones
-/// from it on. It is the slice's length where all dots are smaller. The dots have to rise, so no
-/// two operations have one dot.
+/// The index, counted from 0, of the operation with this dot. If no operation has it, the error is
+/// the index at which one with this dot would be inserted: all dots before that index are smaller,
+/// and all from it on are greater. It is the slice's length if all dots are smaller. The dots must
+/// rise, so no two operations have the same dot.
 ///
-/// Takes no memory. Halves the slice until an operation of the dot's replica is met, and then looks
-/// where the dot stands if its replica's numbers have no gap; so it compares at most twice as many
-/// dots as the length can be halved, and a few where the numbers have no gap and the replicas are
-/// few.
+/// Allocates nothing. Bisects the slice until it meets an operation of the dot's replica, and then
+/// looks where the dot is if that replica's numbers have no gap. It compares at most twice as many
+/// dots as the length can be halved, and only a few where the numbers have no gap and there are few
+/// replicas.
 pub fn find_op<A: Allocator>(ops: &[Op<A>], dot: Dot) -> Result<usize, usize>
     requires { IsTrue (dots_rise ops.now) }
     ensures found { IfOk result (IsAt ops.now dot) }

@@ -1,4 +1,4 @@
-//! What holds of all operations and of sets of them: each law is the contract of a small function,
+//! Laws of operations and of sets of operations: each law is the contract of a small function,
 //! which does nothing or only compares.
 
 ghost use Rattle.std.specs.Prelude.{◌≡◌, ◌↔◌, ℕ, Bool, List, Option, IsTrue};
@@ -24,21 +24,20 @@ use crate::title::Title;
 use std::alloc::Allocator;
 use std::cmp::Ordering;
 
-/// Where every operation names older ones, as each `Op` does, ready is the only set that satisfies
-/// its rule: an operation is in it exactly where it is in the set and each of its needs is met by
-/// an operation that is in it.
+/// If every operation names only older ones, as each `Op` does, then readiness is the only set that
+/// satisfies its rule: an operation is ready if and only if it is in the set and each of its needs
+/// is met by an operation that is ready.
 pub fn readiness()
     ensures { ReadyIsDefined }
 {}
 
-/// An operation that is ready among some operations is ready among these and more: readiness grows
-/// with the set.
+/// An operation that is ready in a set is ready in every larger set: readiness is monotonic.
 pub fn more_operations()
     ensures { ReadyAmongMore }
 {}
 
-/// An act writes at most one value of each field, and what is told of a field is that value of its
-/// list.
+/// An act writes at most one value of each field, and the definition for that field
+/// (`title_written` and so on) gives it.
 pub fn writes()
     ensures titles { IsFieldOf field.Title field.title_written }
     ensures gains { IsFieldOf field.GainWritten field.gain_written }
@@ -52,8 +51,8 @@ pub fn writes()
     ensures marker_lengths { IsFieldOf field.MarkerLength field.marker_length_written }
 {}
 
-/// The last write of each field is the one with the greatest stamp, and there is one where the
-/// field was written.
+/// The last write of a field is the one with the greatest stamp, and there is one if the field was
+/// written at all.
 pub fn last_write()
     ensures titles { LatestIsGreatest (List ℕ) }
     ensures gains { LatestIsGreatest Gain }
@@ -67,9 +66,8 @@ pub fn last_write()
     ensures marker_lengths { LatestIsGreatest ℕ }
 {}
 
-/// The last write of an item's field is the value that one of the operations writes there, and no
-/// operation that writes there has a greater stamp. There is one wherever an operation writes
-/// there.
+/// The last write of an item's field is a value that one of the operations writes there, and no
+/// operation that writes there has a greater stamp. There is one if any operation writes there.
 pub fn last_writer()
     ensures titles { LastWriteIsGreatest field.Title field.title_written }
     ensures gains { LastWriteIsGreatest field.GainWritten field.gain_written }
@@ -83,13 +81,13 @@ pub fn last_writer()
     ensures marker_lengths { LastWriteIsGreatest field.MarkerLength field.marker_length_written }
 {}
 
-/// The live tags of an item are those that an operation gives it and none removes, and it is
-/// present exactly where it has one.
+/// The live tags of an item are the tags that an operation gives it and none removes, and the item
+/// is present if and only if it has a live tag.
 pub fn presence()
     ensures { PresenceIsOfTags }
 {}
 
-/// Titles are equal where their bytes are.
+/// Titles are equal if and only if their bytes are.
 pub fn equal_titles<A: Allocator>(a: &Title<A>, b: &Title<A>) -> bool
     ensures { IsTrue result ↔ (a.now ≡ b.now) }
 {
@@ -104,14 +102,14 @@ pub fn compare_titles<A: Allocator>(a: &Title<A>, b: &Title<A>) -> Ordering
     a.cmp(b)
 }
 
-/// `Gain::UNCHANGED` is 1/1, the gain with which tracks and clips are added.
+/// `Gain::UNCHANGED` is 1/1, the gain of a track or a clip when it is added.
 pub fn unchanged_gain() -> Gain
     ensures { result ≡ unchanged }
 {
     Gain::UNCHANGED
 }
 
-/// Gains are compared by what they multiply by, and then by what they divide by.
+/// Gains are compared by their numerators, and then by their divisors.
 pub fn compare_gains(first: &Gain, second: &Gain) -> Ordering
     ensures { result ≡ ordering_then (nat_cmp first.now.num second.now.num)
         (nat_cmp first.now.den second.now.den) }
@@ -126,28 +124,28 @@ pub fn compare_digests(first: &Digest, second: &Digest) -> Ordering
     first.cmp(second)
 }
 
-/// Bodies are equal where they are of one case and its fields are equal.
+/// Bodies are equal if they are of one case and their fields are equal.
 pub fn equal_bodies<A: Allocator>(a: &Body<A>, b: &Body<A>) -> bool
     ensures { IsTrue result ↔ (act_of a.now ≡ act_of b.now) }
 {
     a == b
 }
 
-/// Operations are equal where their stamps and their bodies are.
+/// Operations are equal if their stamps and their bodies are.
 pub fn equal_ops<A: Allocator>(a: &Op<A>, b: &Op<A>) -> bool
     ensures { IsTrue result ↔ (a.now ≡ b.now) }
 {
     a == b
 }
 
-/// Roles are equal where they are of one case, and as tags where they name one item.
+/// Roles are equal if they are of one case, and `TagOf` roles also have the same item.
 pub fn equal_roles(role: &Role, other: &Role) -> bool
     ensures { IsTrue result ↔ (role.now ≡ other.now) }
 {
     role == other
 }
 
-/// Needs are equal where their stamps and their roles are.
+/// Needs are equal if their stamps and their roles are.
 pub fn equal_needs(need: &Need, other: &Need) -> bool
     ensures { IsTrue result ↔ (need.now ≡ other.now) }
 {

@@ -1,5 +1,5 @@
-//! Operations: their titles, gains, digests and bodies, what they wait for, and how to find one by
-//! its dot.
+//! Operations: their titles, gains, digests and bodies, their needs, and how to find one by its
+//! dot.
 //!
 //! An operation has a stamp and a body, which names the items that it changes by their stamps. It
 //! needs each operation that it names, in the role that the body gives it:
@@ -14,12 +14,14 @@
 //!     let title = Title::new(rt.alloc(), "News")?;
 //!     let added = Op::new(marker, Body::AddMarker { at: 480, title })?;
 //!     assert_eq!(rt; added.need_count(), 0);
-//!     // another editor moves the marker: this waits for an operation of that stamp that is a marker
-//!     let moved: Op = Op::new(Stamp::new(2, Replica(11), 1)?, Body::MoveMarker { marker, at: 960 })?;
+//!     // another editor moves the marker, which needs the operation of that stamp as a marker
+//!     let moved: Op =
+//!         Op::new(Stamp::new(2, Replica(11), 1)?, Body::MoveMarker { marker, at: 960 })?;
 //!     assert_eq!(rt; moved.need(0), Some(Need { stamp: marker, role: Role::Marker }));
 //!     assert!(rt; added.fits(&Role::Marker) && !added.fits(&Role::Track));
-//!     // what an operation names has a smaller clock
-//!     let early: Result<Op, OpFault> = Op::new(Stamp::new(1, Replica(11), 1)?, Body::Restore { item: marker });
+//!     // an operation names only stamps with a smaller clock
+//!     let early: Result<Op, OpFault> =
+//!         Op::new(Stamp::new(1, Replica(11), 1)?, Body::Restore { item: marker });
 //!     assert!(rt; early == Err(OpFault::NameNotOlder));
 //!     Ok(())
 //! }

@@ -1,10 +1,10 @@
-//! What an operation waits for.
+//! The needs of an operation.
 
 ghost use Rattle.std.specs.Prelude.{◌≡◌};
 
 use mt_stamp::Stamp;
 
-/// What an operation has to be, so that another one may name it.
+/// What an operation must be for another one to name it.
 #[derive(Clone, Copy, Debug, PartialEq, Eq)]
 pub enum Role {
     /// A track: an AddTrack.
@@ -15,20 +15,20 @@ pub enum Role {
     Clip,
     /// A marker: an AddMarker.
     Marker,
-    /// An item that sounds, with a gain and a mute: an AddTrack or an AddClip.
+    /// An item with a gain and a mute: an AddTrack or an AddClip.
     Mixable,
     /// An item that has a title: an AddTrack or an AddMarker.
     Titled,
     /// An item of any kind: an AddTrack, an AddClip or an AddMarker.
     Item,
-    /// A tag of the item of this stamp: what added the item, under this stamp, or a Restore of this
-    /// item.
+    /// A tag of the item with this stamp: the operation that added the item, under this stamp, or a
+    /// Restore of the item.
     TagOf(Stamp),
 }
 
-/// What an operation waits for: the operation with this whole stamp (clock, replica and number),
-/// and what that operation has to be. One with the same replica and number and another clock does
-/// not do.
+/// A need of an operation: the whole stamp (clock, replica and number) of another operation, and
+/// what that operation must be. An operation with the same replica and number but another clock
+/// does not meet it.
 #[derive(Clone, Copy, Debug, PartialEq, Eq)]
 pub struct Need {
     pub stamp: Stamp,
@@ -36,7 +36,7 @@ pub struct Need {
 }
 
 impl Need {
-    // What is needed of the operation of a stamp.
+    // The need of this stamp in this role.
     pub(crate) fn of(stamp: Stamp, role: Role) -> Need
         ensures { result ≡ record { stamp = stamp; role = role } }
     {

@@ -18,8 +18,8 @@ use std::alloc::{Allocator, Global};
 use std::marker::Model;
 
 /// An operation: its stamp and what it does. Each stamp that its body names has a smaller clock
-/// than its own, the length that it gives a clip is at least 1, the fades that it gives one are at
-/// most 1,048,576 frames, and the tags of a Remove are from 1 to 65,535, rising.
+/// than its own. The length that it gives a clip is at least 1, the fades are at most 1,048,576
+/// frames, and the tags of a Remove are from 1 to 65,535, rising.
 #[derive(Drop)]
 #[derive_where(PartialEq, Eq)]
 pub struct Op<A: Allocator = Global> {
@@ -42,7 +42,7 @@ impl<A: Allocator> Model for Op<A> {
     ghost inverse = { λ o. record { stamp = o.stamp; body = body_of o.act } };
 }
 
-// The need of what is put after a place, or at the head, at place `i`.
+// The need with index `i` of an act that puts a track after this place, or at the head.
 fn place_need(after: Option<Stamp>, i: usize) -> Option<Need>
     ensures { result ≡ slice_get (place_needs after) i }
 {
@@ -52,7 +52,7 @@ fn place_need(after: Option<Stamp>, i: usize) -> Option<Need>
     }
 }
 
-// The need of what names one operation, at place `i`.
+// The need with index `i` of an act that names one operation.
 fn only_need(stamp: Stamp, role: Role, i: usize) -> Option<Need>
     ensures { result ≡ slice_get (need_of role stamp ∷ []) i }
 {
@@ -63,7 +63,7 @@ fn only_need(stamp: Stamp, role: Role, i: usize) -> Option<Need>
     }
 }
 
-// The need of a MoveTrack of this track to this place at place `i`: the track, and then the place.
+// The need with index `i` of a MoveTrack of this track to this place: the track, then the place.
 fn move_track_need(track: Stamp, after: Option<Stamp>, i: usize) -> Option<Need>
     ensures { result ≡ slice_get (needs_of (MoveTrack track after)) i }
 {
@@ -73,7 +73,7 @@ fn move_track_need(track: Stamp, after: Option<Stamp>, i: usize) -> Option<Need>
     place_need(after, i - 1)
 }
 
-// The need of a MoveClip of this clip to this track at place `i`: the clip, and then the track.
+// The need with index `i` of a MoveClip of this clip to this track: the clip, then the track.
 fn move_clip_need(clip: Stamp, track: Stamp, i: usize) -> Option<Need>
     ensures { result ≡ slice_get (need_of Role.Clip clip ∷ need_of Role.Track track ∷ []) i }
 {
@@ -84,7 +84,7 @@ fn move_clip_need(clip: Stamp, track: Stamp, i: usize) -> Option<Need>
     }
 }
 
-// The need of a Remove of this item and these tags at place `i`: the item, and then each tag.
+// The need with index `i` of a Remove of this item and these tags: the item, then each tag.
 fn remove_need(item: Stamp, tags: &[Stamp], i: usize) -> Option<Need>
     ensures { result ≡ slice_get (needs_of (Remove item tags.now)) i }
 {
@@ -100,9 +100,9 @@ fn remove_need(item: Stamp, tags: &[Stamp], i: usize) -> Option<Need>
 impl<A: Allocator> Op<A> {
     ghost use Rattle.mt_op.specs.OpValue.{Op as OpValue};
 
-    /// An operation of a stamp and a body. Takes no memory. Refused, in this order:
+    /// An operation of a stamp and a body. Allocates nothing. The errors, in this order:
     ///
-    /// - `NameNotOlder` (5): a stamp that the body names has a clock that is not smaller than this
+    /// - `NameNotOlder` (5): the clock of a stamp that the body names is not smaller than this
     ///   stamp's
     /// - `ZeroLength` (6): an AddClip or a TrimClip gives a clip no frame
     /// - `FadeTooLong` (51): a SetFade gives a clip a fade of over 1,048,576 frames
@@ -126,22 +126,22 @@ impl<A: Allocator> Op<A> {
         Ok(Op { stamp, body })
     }
 
-    /// The stamp.
+    /// The operation's stamp.
     pub fn stamp(&self) -> Stamp
         ensures value { result ≡ self.now.stamp }
         ensures valid { IsOp self.now }
     {
-        // for the proof: that stamp and body are those of an operation
+        // for the proof: reading both fields shows that they are those of an operation
         let _ = &self.body;
         self.stamp
     }
 
-    /// The stamp's dot: its replica and number, without the clock.
+    /// The dot of the stamp: its replica and number, without the clock.
     pub fn dot(&self) -> Dot
         ensures value { result ≡ op_dot self.now }
         ensures valid { IsOp self.now }
     {
-        // for the proof: that stamp and body are those of an operation
+        // for the proof: reading both fields shows that they are those of an operation
         let _ = &self.body;
         self.stamp.dot()
     }
@@ -154,7 +154,7 @@ impl<A: Allocator> Op<A> {
         &self.body
     }
 
-    /// The item that it adds or names, which is all that it changes.
+    /// The item that the operation adds or names. It changes no other item.
     pub fn item(&self) -> Stamp
         ensures { result ≡ op_item self.now.stamp self.now.act }
     {
@@ -173,8 +173,8 @@ impl<A: Allocator> Op<A> {
         }
     }
 
-    /// How many needs it has: one for each stamp that its body names, so none for an AddMarker and
-    /// for an AddTrack at the head. Two of them may name one operation.
+    /// The number of its needs: one for each stamp that its body names, so 0 for an AddMarker and
+    /// for an AddTrack at the head. Two needs may name the same operation.
     pub fn need_count(&self) -> usize
         ensures { result ≡ length (needs self.now) }
     {
@@ -186,13 +186,13 @@ impl<A: Allocator> Op<A> {
         }
     }
 
-    /// The need at place `i`, counted from 0, in the order of the body's fields. `None` where `i`
-    /// is `need_count()` or more. An AddTrack or a MoveTrack needs what it is put after as a
-    /// `Place`; a MoveTrack, an AddClip and a MoveClip their track as a `Track`; a MoveClip, a
-    /// TrimClip and a SetFade their clip as a `Clip`; a SetGain and a SetMute their item as a
-    /// `Mixable`; a Remove the item as an `Item`, and then each tag as a `TagOf` that item; a
-    /// Restore its item as an `Item`; a MoveMarker and a SetMarkerLength their marker as a
-    /// `Marker`; a Retitle its item as a `Titled`.
+    /// The need with index `i`, counted from 0, in the order of the body's fields. `None` if `i` is
+    /// `need_count()` or more. An AddTrack or a MoveTrack needs what it is put after as a `Place`;
+    /// a MoveTrack, an AddClip and a MoveClip their track as a `Track`; a MoveClip, a TrimClip and
+    /// a SetFade their clip as a `Clip`; a SetGain and a SetMute their item as a `Mixable`; a
+    /// Remove the item as an `Item`, and then each tag as a `TagOf` that item; a Restore its item
+    /// as an `Item`; a MoveMarker and a SetMarkerLength their marker as a `Marker`; a Retitle its
+    /// item as a `Titled`.
     pub fn need(&self, i: usize) -> Option<Need>
         ensures { result ≡ slice_get (needs self.now) i }
     {
@@ -217,8 +217,8 @@ impl<A: Allocator> Op<A> {
 
     /// Whether another operation may name this one in that role: an AddTrack as a `Track`, `Place`,
     /// `Mixable`, `Titled` and `Item`; a MoveTrack as a `Place`; an AddClip as a `Clip`, `Mixable`
-    /// and `Item`; an AddMarker as a `Marker`, `Titled` and `Item`; what adds an item as a `TagOf`
-    /// its own stamp, and a Restore as a `TagOf` its item.
+    /// and `Item`; an AddMarker as a `Marker`, `Titled` and `Item`; an operation that adds an item
+    /// as a `TagOf` its own stamp, and a Restore as a `TagOf` its item.
     pub fn fits(&self, role: &Role) -> bool
         ensures { result ≡ fits role.now self.now }
     {
@@ -239,9 +239,9 @@ impl<A: Allocator> Op<A> {
         }
     }
 
-    /// An equal operation, on a clone of the allocator. Refused as `Memory` (0) where the clone of
-    /// its title or its tags gets no memory, and for nothing else: one whose body has neither is
-    /// never refused.
+    /// An equal operation, on a clone of the allocator. The only error is `Memory` (0): the clone
+    /// of its title or of its tags could not be allocated. Copying an operation whose body has
+    /// neither always succeeds.
     pub fn try_clone(&self) -> Result<Self, OpFault>
     where
         A: Clone,

@@ -1,4 +1,4 @@
-//! The tags that an operation lists.
+//! The tags that a Remove lists.
 
 ghost use Rattle.std.specs.Prelude.{◌≡◌, Option, Some, None, IsTrue, nat_lt};
 ghost use Rattle.std.specs.List.{list_all, AllByRecursion};
@@ -8,10 +8,10 @@ ghost use Rattle.mt_op.specs.Tags.{stamps_rise, are_tags};
 
 use mt_stamp::Stamp;
 
-// How many tags a Remove may list.
+// The greatest number of tags of a Remove.
 const GREATEST_COUNT: usize = 65_535;
 
-// Whether a stamp is greater than the one before it, where there is one.
+// Whether a stamp is greater than the previous one, if there is one.
 fn is_after(last: Option<Stamp>, tag: Stamp) -> bool
     ensures { result ≡ is_after stamp_cmp last tag }
 {
@@ -42,7 +42,7 @@ pub(crate) fn are_tags(tags: &[Stamp]) -> bool
     !tags.is_empty() && tags.len() <= GREATEST_COUNT && rise(tags)
 }
 
-// Whether the clock of each stamp is smaller than this one.
+// Whether every stamp has a clock smaller than this one.
 pub(crate) fn are_older(tags: &[Stamp], clock: u64) -> bool
     ensures older { result ≡ list_all (λ (tag : Stamp). nat_lt tag.clock clock) tags.now }
     ensures valid { IsTrue result → AllByRecursion IsStamp tags.now }

@@ -11,8 +11,8 @@ use std::cmp::Ordering;
 use std::marker::Model;
 
 /// A title: at most 255 bytes of UTF-8 with no character below 0x20 and no 0x7F. It may be empty,
-/// and hold every other character. Titles are ordered by their bytes, compared as numbers from the
-/// first on.
+/// and may have any other character. Titles are ordered by their bytes, compared as numbers from
+/// the first on.
 #[derive(Drop)]
 #[derive_where(Debug)]
 pub struct Title<A: Allocator = Global> {
@@ -31,21 +31,21 @@ impl<A: Allocator> Model for Title<A> {
     ghost invariant = { λ t. IsTrue (is_title (string_bytes t.text)) };
 }
 
-// Whether a byte may stand in a title.
+// Whether a byte is allowed in a title.
 fn is_plain(byte: u8) -> bool
     ensures { result ≡ is_plain byte }
 {
     byte >= 32 && byte != 127
 }
 
-// Whether every byte may stand in a title.
+// Whether every byte is allowed in a title.
 fn all_plain(text: &str) -> bool
     ensures { result ≡ list_all is_plain text.now }
 {
     text.as_bytes().iter().all(|byte| is_plain(*byte))
 }
 
-// Whether the text is a title's.
+// Whether the text is a valid title.
 fn is_title_text(text: &str) -> bool
     ensures { result ≡ is_title text.now }
 {
@@ -53,9 +53,9 @@ fn is_title_text(text: &str) -> bool
 }
 
 impl<A: Allocator> Title<A> {
-    /// A title of this text. Refused as `BadTitle` (43) where the text is over 255 bytes, or has a
-    /// character below 0x20 or the character 0x7F. Any other text is refused only as `Memory` (0),
-    /// where there is none.
+    /// A title of this text. Fails with `BadTitle` (43) if the text is over 255 bytes, or has a
+    /// character below 0x20 or the character 0x7F. For any other text the only error is `Memory`
+    /// (0): out of memory.
     pub fn new(alloc: A, text: &str) -> Result<Self, OpFault>
         ensures ok { IfOk result (λ title. title ≡ text.now) }
         ensures bad_title { IsErrOf result OpFault.BadTitle ↔ (is_title text.now ≡ false) }
@@ -74,13 +74,13 @@ impl<A: Allocator> Title<A> {
         ensures text { result.now ≡ self.now }
         ensures title { IsTrue (is_title self.now) }
     {
-        // for the proof: that the text is a title
+        // for the proof: reading the field shows that the text is a title
         let _ = &self.text;
         self.text.as_str()
     }
 
-    /// A title with the same text, on a clone of the allocator. Refused as `Memory` (0) where there
-    /// is none, and for nothing else.
+    /// A title with the same text, on a clone of the allocator. The only error is `Memory` (0): out
+    /// of memory.
     pub fn try_clone(&self) -> Result<Self, OpFault>
     where
         A: Clone,

@@ -1,4 +1,4 @@
-//! Values of fields that have two parts.
+//! Field values that have two parts.
 
 use mt_stamp::Stamp;
 
@@ -9,16 +9,16 @@ pub struct Placement {
     pub at: u32,
 }
 
-/// What a clip plays of its recording: `len` frames from frame `offset` on, each any `u32`; an
-/// operation gives a `len` of at least 1.
+/// What a clip plays of its recording: `len` frames from frame `offset` on, each any `u32`. The
+/// `len` that an operation gives is at least 1.
 #[derive(Clone, Copy, Debug, PartialEq, Eq, PartialOrd, Ord)]
 pub struct TrimRange {
     pub offset: u32,
     pub len: u32,
 }
 
-/// Over how many frames a clip fades in from its first one on, and out to its last one, each any
-/// `u32`; an operation gives at most `LONGEST_FADE`. 0 for no fade.
+/// The fades of a clip: the number of frames over which it fades in from its first frame on, and
+/// out to its last one, each any `u32`. An operation gives at most `LONGEST_FADE`; 0 is no fade.
 #[derive(Clone, Copy, Debug, PartialEq, Eq, PartialOrd, Ord)]
 pub struct FadeLengths {
     pub fade_in: u32,

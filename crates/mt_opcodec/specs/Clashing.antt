@@ -1,5 +1,5 @@
--- Whether a log has another operation under the dot of one (profile), and which of a list is the
--- first for which it has one.
+-- Whether a log has another operation under a given operation's dot (profile), and the first
+-- operation of a list for which it has.
 use Rattle.std.specs.Prelude.{◌≡◌, ◌≢◌, List, [], ◌∷◌, Bool, true, false, Option, Some, None, ◌⊎◌}
 use Rattle.std.specs.FinMap as map
 use Rattle.mt_stamp.specs.declared.name.Dot.{Dot}
@@ -12,7 +12,7 @@ abbrev pub HasAnother : LogMap → Op → Bool → Type 0
 HasAnother log o true = (p : Op) × ((map.get log (op_dot o) ≡ Some p) × (p ≢ o))
 HasAnother log o false = (p : Op) → map.get log (op_dot o) ≡ Some p → p ≡ o
 
--- the dot of the first operation of a list that the log has another one for, or none (working
+-- the dot of the first operation of a list for which the log has another one, or none (working
 -- predicate)
 abbrev pub FirstOther : LogMap → List Op → Option Dot → Type 0
 FirstOther log [] r = r ≡ None

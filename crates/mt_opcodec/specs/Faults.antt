@@ -1,4 +1,4 @@
--- The number of each refusal.
+-- The number of each error.
 use Rattle.std.specs.Prelude.{ℕ}
 use Rattle.mt_opcodec.specs.declared.fault.ReadFault.{ReadFault}
 use Rattle.mt_opcodec.specs.declared.fault.ReadFault.TheVariants as read

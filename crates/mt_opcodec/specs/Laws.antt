@@ -1,4 +1,4 @@
--- What holds of texts and of unions.
+-- Laws of texts and of unions.
 use Rattle.std.specs.Prelude.{◌≡◌, ℕ, ◌<◌, ◌^◌, List, [], ◌∷◌, ◌++◌, length, None, is_some}
 use Rattle.std.specs.Prelude.{if◌then◌else◌, ◌↔◌, ◌⊎◌, ◌≤◌, IsTrue}
 use Rattle.std.specs.List.{AllByRecursion, Contains}
@@ -16,8 +16,8 @@ use Rattle.mt_opcodec.specs.IsLog.{IsLog}
 use Rattle.mt_opcodec.specs.Sets.{Has, IsSet, HasJoined, IsReadyIn}
 use Rattle.mt_opcodec.specs.Union.{Agree, union, AllAgree}
 
--- An operation has one text, and no operation's text begins another's: what stands at the front of
--- bytes is determined.
+-- An operation has exactly one text, and no operation's text is a prefix of another's: the
+-- operation at the front of bytes is unique.
 abbrev pub OpTextsAreApart : Type 0
 OpTextsAreApart = (o p : Op) (rest after : List ℕ) → IsOp o → IsOp p → op_text o ++ rest ≡ op_text p
     ++ after → (o ≡ p) × (rest ≡ after)
@@ -32,15 +32,15 @@ abbrev pub OneLogOfEachText : Type 0
 OneLogOfEachText = (a b : LogMap) → IsLog a → IsLog b → log_bytes (operations a)
     ≡ log_bytes (operations b) → a ≡ b
 
--- The version of a log is the greatest that one of its operations asks for: none asks for a later
--- one, and where it is not 1, some operation asks for it.
+-- The version of a log is the greatest that one of its operations needs: none needs a later one,
+-- and if it is not 1, some operation needs it.
 pub record VersionIsGreatest : Type 0 where
   pub none_later : (ops : List Op) (o : Op) → Contains ops o → version_of_act o.act ≤ version_of ops
   pub asked_for : (ops : List Op) → (version_of ops ≡ 1)
       ⊎ ((o : Op) × (Contains ops o × (version_of_act o.act ≡ version_of ops)))
 
--- Union joins sets: it has what either log has, and where the logs agree it is commutative,
--- associative and idempotent.
+-- At each dot the union has the operation of the first log, or, if that has none, that of the
+-- second. Union is associative and idempotent, and commutative if the logs agree.
 pub record IsUnion : Type 0 where
   pub has : (a b : LogMap) (dot : Dot) → map.get (union a b) dot
       ≡ (if is_some (map.get a dot) then map.get a dot else map.get b dot)
@@ -53,8 +53,8 @@ abbrev pub PairsAgree : List LogMap → Type 0
 PairsAgree [] = Unit {0}
 PairsAgree (a ∷ logs) = AllByRecursion (Agree a) logs × PairsAgree logs
 
--- Logs that are joined from left to right agree exactly where every two of them do: so in every
--- order and grouping, or in none.
+-- Logs that are joined from left to right agree if and only if every two of them do: so they agree
+-- in every order and grouping, or in none.
 abbrev pub AgreePairwise : Type 0
 AgreePairwise = (logs : List LogMap) → AllAgree logs ↔ PairsAgree logs
 
@@ -63,8 +63,8 @@ abbrev pub AgreeGrouped : Type 0
 AgreeGrouped = (a b c : LogMap) → (Agree a b × Agree (union a b) c)
     ↔ (Agree b c × Agree a (union b c))
 
--- A log is the set of the operations that it lists. The empty one has none, one more joins where
--- nothing stands under its dot, and unions and the logs in memory are sets.
+-- A log is the set of the operations that it lists. The empty log has none; an operation whose dot
+-- the log does not have can be added; unions of sets are sets, and logs in memory are sets.
 pub record LogsAreSets : Type 0 where
   pub listed : (log : LogMap) → IsSet log → (o : Op) → Contains (operations log) o ↔ Has log o
   pub empty : IsSet map.empty × ((o : Op) → Has map.empty o → ⊥)
@@ -74,8 +74,8 @@ pub record LogsAreSets : Type 0 where
   pub logged : (log : LogMap) → AreLogged (operations log) → log_of (operations log) ≡ log
       → IsSet log
 
--- What is ready in a log stays ready as the log grows: by one operation more, and in its union with
--- another log.
+-- An operation that is ready in a log stays ready as the log grows: by one more operation, and in
+-- its union with another log.
 pub record ReadyStays : Type 0 where
   pub one_more : (log : LogMap) (o p : Op) → map.get log (op_dot o) ≡ None → IsReadyIn log p
       → IsReadyIn (map.insert log (op_dot o) o) p

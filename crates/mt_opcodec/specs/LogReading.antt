@@ -1,4 +1,4 @@
--- Reading a log, with its refusals in their order (profile).
+-- Reading a log, with its errors in their order (profile).
 use Rattle.std.specs.Prelude.{◌≡◌, ℕ, zero, suc, ◌+◌, ◌-◌, Bool, List, [], ◌∷◌, length, take, drop}
 use Rattle.std.specs.Prelude.{slice_index, Option, Some, None, Result, Ok, Err, nat_lt, nat_eq, not}
 use Rattle.std.specs.Prelude.{if◌then◌else◌}
@@ -26,7 +26,7 @@ abbrev pub ◌>>=◌ : {A B : Type 0} → Result A LogFault → (A → Result B 
 (Ok x) >>= f = f x
 (Err e) >>= f = Err e
 
--- one operation after the dot `last`, as record `index`
+-- an operation after the dot `last`, as record `index`
 abbrev pub in_order : ℕ → Option Dot → Op × List ℕ → Result (Op × List ℕ) LogFault
 in_order index last x = if is_after dot_cmp last (op_dot x.0) then Ok x else Err (OutOfOrder index)
 
@@ -35,14 +35,15 @@ abbrev pub record_of : ℕ → Option Dot → Result (Op × List ℕ) ReadFault
 record_of index last (Ok x) = in_order index last x
 record_of index last (Err cause) = Err (BadRecord index cause)
 
--- the refusal of a record that is no operation
+-- the error of a record that is not an operation
 abbrev pub fault_of : ℕ → ReadFault → LogFault
 fault_of index read.Memory = Memory
 fault_of index read.Truncated = BadRecord index read.Truncated
 fault_of index read.BadTag = BadRecord index read.BadTag
 fault_of index read.BadField = BadRecord index read.BadField
 
--- this many operations of a version, from record `index` on, after the dot `last`, and then nothing
+-- this many operations of a version, from record `index` on, after the dot `last`, with nothing
+-- after them
 unfoldable pub records_at : (version count index : ℕ) → Option Dot → List ℕ
     → Result (List Op) LogFault
 records_at version zero index last [] = Ok []
@@ -52,22 +53,22 @@ records_at version (suc count) index last bytes = do
   others ← records_at version count (index + 1) (Some (op_dot first.0)) first.1
   Ok (first.0 ∷ others)
 
--- operations, where they ask for no earlier version than this one
+-- the operations, if they need a version of at least this one
 abbrev pub in_version : ℕ → List Op → Result (List Op) LogFault
 in_version version ops = if nat_lt (version_of ops) version then Err VersionTooHigh else Ok ops
 
--- this many operations of a version that they ask for, and then nothing
+-- this many operations of a version that they need, with nothing after them
 abbrev pub log_records_at : (version count : ℕ) → List ℕ → Result (List Op) LogFault
 log_records_at version count bytes = records_at version count 0 None bytes >>= in_version version
 
--- how many bytes stand before the records, and how many the digest has
+-- the number of bytes before the records, and of bytes in the digest
 abbrev pub head_len : ℕ
 head_len = 13
 
 abbrev pub digest_len : ℕ
 digest_len = 32
 
--- the fifth byte, 0 where there is none
+-- the fifth byte, or 0 if there is none
 abbrev pub version_byte : List ℕ → ℕ
 version_byte bytes = slice_index bytes 4
 
@@ -75,11 +76,11 @@ version_byte bytes = slice_index bytes 4
 abbrev pub body_of : List ℕ → List ℕ
 body_of bytes = take (length bytes - digest_len) bytes
 
--- the digest at the end agrees with the bytes before it
+-- the digest at the end is that of the bytes before it
 abbrev pub is_sealed : List ℕ → Bool
 is_sealed bytes = pointwise nat_eq (sha256 (body_of bytes)) (drop (length bytes - digest_len) bytes)
 
--- the bytes before the digest, where the frame of a log is whole
+-- the bytes before the digest, after checking magic, version, length and digest
 unfoldable pub sealed_at : List ℕ → Result (List ℕ) LogFault
 sealed_at bytes =
     if not (starts_with nat_eq bytes magic) then Err BadMagic
@@ -88,7 +89,7 @@ sealed_at bytes =
     else if is_sealed bytes then Ok (body_of bytes)
     else Err Damaged
 
--- the count says how many operations stand between it and the digest
+-- the head counts the operations between it and the digest
 unfoldable pub counted_at : List ℕ → Result (List Op) LogFault
 counted_at body = log_records_at (version_byte body) (from_be_bytes w64 (take 8 (drop 5 body)))
     (drop head_len body)
@@ -96,7 +97,7 @@ counted_at body = log_records_at (version_byte body) (from_be_bytes w64 (take 8 
 abbrev pub log_at : List ℕ → Result (List Op) LogFault
 log_at bytes = sealed_at bytes >>= counted_at
 
--- What a function returned, seen by view, is what reading gives, unless memory ran out.
+-- A function's result, mapped by `view`, is what reading gives, unless an allocation failed.
 abbrev pub LogFails : {X : Type 0} → LogFault → Result X LogFault → Type 0
 LogFails Memory read = Unit {0}
 LogFails BadMagic read = read ≡ Err BadMagic

@@ -10,7 +10,7 @@ use Rattle.mt_op.specs.Valid.{IsOp}
 use Rattle.mt_opcodec.specs.declared.fault.LogFault.{LogFault}
 use Rattle.mt_opcodec.specs.declared.fault.LogFault.TheVariants.{Memory, Conflict}
 
--- a consistent set of operations: no two of them have one dot
+-- a consistent set of operations: no two of them have the same dot
 abbrev pub LogMap : Type 0
 LogMap = map.FinMap dot_cmp Op
 
@@ -22,12 +22,12 @@ operations log = map.values log
 abbrev pub log_of : List Op → LogMap
 log_of ops = map.from_sorted {R = dot_cmp} (list_map entry_of ops)
 
--- operations that a log can have: their dots rise, and each is an operation
+-- operations that a log can have: their dots rise, and each is valid
 pub record AreLogged (ops : List Op) : Type 0 where
   pub rise : IsTrue (dots_rise ops)
   pub valid : AllByRecursion IsOp ops
 
--- what adding an operation answers, from what the log has under its dot
+-- what adding an operation returns, by what the log has under its dot
 abbrev pub Adds : Op → LogMap → Result Bool LogFault → Type 0
 Adds op log (Ok true) = map.get log (op_dot op) ≡ None
 Adds op log (Ok false) = map.get log (op_dot op) ≡ Some op

@@ -1,4 +1,4 @@
--- Which operation of two logs comes next in their union.
+-- Which of two logs has the next operation of their union.
 use Rattle.std.specs.List.{AllByRecursion}
 use Rattle.std.specs.Prelude.{◌≡◌, ◌≢◌, List, Option, Some, None}
 use Rattle.std.specs.declared.cmp.Ordering.TheVariants.{Less}
@@ -8,8 +8,8 @@ use Rattle.mt_op.specs.Dots.{op_dot}
 use Rattle.mt_opcodec.specs.declared.joining.Next.{Next}
 use Rattle.mt_opcodec.specs.declared.joining.Next.TheVariants.{Left, Right, Both, Conflict, End}
 
--- Of the next operation of each log: the one with the smaller dot, or the same one, or two of one
--- dot.
+-- Which log has the next operation: the one with the smaller dot, both if it is the same operation,
+-- or a conflict of two with one dot.
 abbrev pub ComesNext : Option Op → Option Op → Next → Type 0
 ComesNext left right Left = (o : Op) × ((left ≡ Some o)
     × ((p : Op) → right ≡ Some p → dot_cmp (op_dot o) (op_dot p) ≡ Less))
@@ -20,7 +20,7 @@ ComesNext left right Conflict = (o p : Op) × ((left ≡ Some o) × (right ≡ S
     × (op_dot o ≡ op_dot p) × (o ≢ p))
 ComesNext left right End = (left ≡ None) × (right ≡ None)
 
--- every dot of the first is smaller than every dot of the second
+-- every dot of the first list is smaller than every dot of the second
 abbrev pub EndsBefore : List Op → List Op → Type 0
 EndsBefore left right = AllByRecursion (λ (o : Op). AllByRecursion
     (λ (p : Op). dot_cmp (op_dot o) (op_dot p) ≡ Less) right) left

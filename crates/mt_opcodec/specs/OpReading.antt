@@ -1,5 +1,4 @@
--- Reading an operation from left to right, field by field, with the first fault that is met
--- (profile).
+-- Reading an operation from left to right, field by field, up to the first fault (profile).
 use Rattle.std.specs.Prelude.{◌≡◌, ℕ, zero, suc, Bool, true, false, List, [], ◌∷◌, Option, Some}
 use Rattle.std.specs.Prelude.{None, length, take, drop, Result, Ok, Err, nat_lt, nat_le, ◌==◌, ◌&&◌}
 use Rattle.std.specs.Prelude.{if◌then◌else◌}
@@ -59,14 +58,14 @@ moment_at bytes = do
   seq ← number_at w64 replica.1
   Ok (record { clock = clock.0; replica = record { 0 = replica.0 }; seq = seq.0 }, seq.1)
 
--- clock and sequence number lie between 1 and 2^62
+-- the clock and the sequence number are from 1 to 2^62
 abbrev pub is_in_range : ℕ → Bool
 is_in_range n = nat_le 1 n && nat_le n greatest
 
 abbrev pub is_stamp : Stamp → Bool
 is_stamp m = is_in_range m.clock && is_in_range m.seq
 
--- a stamp is one field: its numbers are looked at once all are there
+-- a stamp is one field: its range is checked after all its bytes are there
 unfoldable pub stamp_at : List ℕ → Reads Stamp
 stamp_at bytes = do
   stamp ← moment_at bytes
@@ -78,14 +77,14 @@ older_stamp_at clock bytes = do
   name ← stamp_at bytes
   if nat_lt name.0.clock clock then Ok name else Err BadField
 
--- the place that a track is put after, where a flag says that there is one
+-- the place that a track is put after, if the flag is 1
 unfoldable pub after_at : ℕ → Bool → List ℕ → Reads (Option Stamp)
 after_at clock false bytes = Ok (None, bytes)
 after_at clock true bytes = do
   after ← older_stamp_at clock bytes
   Ok (Some after.0, after.1)
 
--- a flag, and the place where it is 1
+-- a flag, and the stamp of the place if the flag is 1
 unfoldable pub place_at : ℕ → List ℕ → Reads (Option Stamp)
 place_at clock bytes = do
   there ← flag_at bytes
@@ -94,7 +93,7 @@ place_at clock bytes = do
 abbrev pub title_of_bytes : List ℕ → Result (List ℕ) ReadFault
 title_of_bytes bytes = if is_title bytes then Ok bytes else Err BadField
 
--- a title with its length is one field
+-- a title with its length, which is one field
 unfoldable pub title_at : List ℕ → Reads (List ℕ)
 title_at [] = Err Truncated
 title_at (n ∷ rest) =
@@ -106,40 +105,40 @@ unfoldable pub digest_at : List ℕ → Reads Digest
 digest_at bytes = if nat_lt (length bytes) 32 then Err Truncated else Ok
     (record { 0 = take 32 bytes }, drop 32 bytes)
 
--- what a clip plays of its recording: from which frame on, and then how many
+-- the trim of a clip: the first frame of its recording, and then the number of frames
 unfoldable pub trim_at : List ℕ → Reads (ℕ × ℕ)
 trim_at bytes = do
   offset ← number_at w32 bytes
   len ← positive_at w32 offset.1
   Ok ((offset.0, len.0), len.1)
 
--- how many frames a fade lasts, which are not too many
+-- the length of a fade in frames, at most the longest allowed
 unfoldable pub fade_at : List ℕ → Reads ℕ
 fade_at bytes = do
   n ← number_at w32 bytes
   if nat_le n.0 longest_fade then Ok n else Err BadField
 
--- over how many frames a clip fades in, and then over how many out
+-- the lengths of a clip's fade-in and then of its fade-out, in frames
 unfoldable pub fades_at : List ℕ → Reads (ℕ × ℕ)
 fades_at bytes = do
   fade_in ← fade_at bytes
   fade_out ← fade_at fade_in.1
   Ok ((fade_in.0, fade_out.0), fade_out.1)
 
--- what is multiplied by, and then what is divided by
+-- the numerator of a gain, and then its divisor
 unfoldable pub gain_at : List ℕ → Reads Gain
 gain_at bytes = do
   num ← number_at w16 bytes
   den ← positive_at w16 num.1
   Ok (record { num = num.0; den = den.0 }, den.1)
 
--- a tag of a Remove, after the one before
+-- a tag of a Remove, greater than the one before
 unfoldable pub tag_at : ℕ → Option Stamp → List ℕ → Reads Stamp
 tag_at clock last bytes = do
   tag ← older_stamp_at clock bytes
   if is_after stamp_cmp last tag.0 then Ok tag else Err BadField
 
--- this many tags, after the one before
+-- this many tags, each greater than the one before
 unfoldable pub stamps_at : ℕ → ℕ → Option Stamp → List ℕ → Reads (List Stamp)
 stamps_at zero clock last bytes = Ok ([], bytes)
 stamps_at (suc count) clock last bytes = do
@@ -147,13 +146,13 @@ stamps_at (suc count) clock last bytes = do
   tags ← stamps_at count clock (Some tag.0) tag.1
   Ok (tag.0 ∷ tags.0, tags.1)
 
--- a count that is not 0, and that many tags, each a field
+-- a count that is not 0, and this many tags, each a field
 unfoldable pub tags_at : ℕ → List ℕ → Reads (List Stamp)
 tags_at clock bytes = do
   count ← number_at w16 bytes
   if count.0 == 0 then Err BadField else stamps_at count.0 clock None count.1
 
--- ---- the fields of each act, where the operation has this clock
+-- ---- the fields of each act, for an operation with this clock
 
 unfoldable pub add_track_at : ℕ → List ℕ → Reads Body
 add_track_at clock bytes = do
@@ -241,7 +240,7 @@ set_marker_length_at clock bytes = do
   len ← number_at w32 marker.1
   Ok (SetMarkerLength marker.0 len.0, len.1)
 
--- a kind byte, and what reads the fields that it calls for, given the operation's clock
+-- a kind byte, and the reader of its fields, given the operation's clock
 abbrev pub Reader : Type 0
 Reader = ℕ × (ℕ → List ℕ → Reads Body)
 
@@ -262,39 +261,39 @@ readers =
     (set_fade_kind, set_fade_at) ∷
     (set_marker_length_kind, set_marker_length_at) ∷ []
 
--- the fields that the first of these readers with this kind byte reads
+-- the fields of this kind byte, read by the first reader for it
 abbrev pub fields_at : List Reader → ℕ → ℕ → List ℕ → Reads Body
 fields_at [] kind clock bytes = Err BadTag
 fields_at (reader ∷ others) kind clock bytes = if kind == reader.0 then reader.1 clock bytes else
     fields_at others kind clock bytes
 
--- a kind byte, and the fields that it calls for
+-- a kind byte, and its fields
 unfoldable pub act_at : ℕ → List ℕ → Reads Body
 act_at clock [] = Err Truncated
 act_at clock (kind ∷ rest) = fields_at readers kind clock rest
 
--- whether the kind byte at the front came with a later version of logs than this one
+-- whether the kind byte at the front was introduced by a later version of logs than this one
 abbrev pub is_newer : ℕ → List ℕ → Bool
 is_newer version [] = false
 is_newer version (kind ∷ rest) = nat_lt version (version_of_kind kind)
 
--- the same in a log of this version, where a kind byte that came later is none of an operation
+-- an act in a log of this version, where a newer kind byte is not a kind of operation
 unfoldable pub act_in : (version clock : ℕ) → List ℕ → Reads Body
 act_in version clock bytes = if is_newer version bytes then Err BadTag else act_at clock bytes
 
--- what stands after a stamp, with that stamp
+-- the operation with this stamp, from the bytes after the stamp
 abbrev pub op_after : ℕ → Stamp → List ℕ → Reads Op
 op_after version stamp bytes = do
   act ← act_in version stamp.clock bytes
   Ok (record { stamp = stamp; act = act.0 }, act.1)
 
--- an operation in a log of this version; the newest has all kinds of them
+-- an operation in a log of this version; the newest version has all kinds
 unfoldable pub op_at : ℕ → List ℕ → Reads Op
 op_at version bytes = do
   stamp ← stamp_at bytes
   op_after version stamp.0 stamp.1
 
--- What a function returned, seen by view, is what reading gives, unless memory ran out.
+-- A function's result, mapped by `view`, is what reading gives, unless an allocation failed.
 abbrev pub Fails : {X : Type 0} → ReadFault → Result X ReadFault → Type 0
 Fails Memory read = Unit {0}
 Fails Truncated read = read ≡ Err Truncated

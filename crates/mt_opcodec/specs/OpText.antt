@@ -1,4 +1,4 @@
--- The one text of each operation (profile). Numbers have their greatest byte first.
+-- The text of an operation, exactly one for each (profile). Numbers are big-endian.
 use Rattle.std.specs.Prelude.{ℕ, Bool, true, false, List, [], ◌∷◌, ◌++◌, Option, Some, None, length}
 use Rattle.std.specs.Int.{w16, w32, w64, w128, to_be_bytes}
 use Rattle.std.specs.List.{flat_map}
@@ -8,7 +8,7 @@ use Rattle.mt_op.specs.OpValue.{Body, AddTrack, MoveTrack, AddClip, MoveClip, Tr
 use Rattle.mt_op.specs.OpValue.{SetMute, Remove, Restore, AddMarker, MoveMarker, Retitle, SetFade}
 use Rattle.mt_op.specs.OpValue.{SetMarkerLength, Op}
 
--- clock in 8 bytes, replica in 16, sequence number in 8
+-- the clock in 8 bytes, the replica in 16, the sequence number in 8
 abbrev pub stamp_bytes : Stamp → List ℕ
 stamp_bytes m = to_be_bytes w64 m.clock ++ (to_be_bytes w128 m.replica.0 ++ to_be_bytes w64 m.seq)
 
@@ -30,19 +30,19 @@ title_bytes title = length title ∷ title
 abbrev pub frame_bytes : ℕ → List ℕ
 frame_bytes n = to_be_bytes w32 n
 
--- the first frame of the recording that a clip plays, and how many it plays
+-- the first frame of the recording that a clip plays, and the number of frames
 abbrev pub trim_bytes : (offset len : ℕ) → List ℕ
 trim_bytes offset len = frame_bytes offset ++ frame_bytes len
 
--- over how many frames a clip fades in, and over how many out
+-- the lengths of a clip's fade-in and of its fade-out, in frames
 abbrev pub fades_bytes : (fade_in fade_out : ℕ) → List ℕ
 fades_bytes fade_in fade_out = frame_bytes fade_in ++ frame_bytes fade_out
 
--- two numbers of two bytes
+-- the numerator and the divisor, in two bytes each
 abbrev pub gain_bytes : Gain → List ℕ
 gain_bytes gain = to_be_bytes w16 gain.num ++ to_be_bytes w16 gain.den
 
--- two bytes of count, and that many stamps
+-- the count in two bytes, and that many stamps
 abbrev pub tags_bytes : List Stamp → List ℕ
 tags_bytes tags = to_be_bytes w16 (length tags) ++ flat_map stamp_bytes tags
 
@@ -89,7 +89,7 @@ set_fade_kind = 13
 abbrev pub set_marker_length_kind : ℕ
 set_marker_length_kind = 14
 
--- the kind byte, and the fields in their order; a digest stands as its bytes
+-- the kind byte, and the fields in order; a digest is its 32 bytes
 abbrev pub act_bytes : Body → List ℕ
 act_bytes (AddTrack after title) = add_track_kind ∷ (place_bytes after ++ title_bytes title)
 act_bytes (MoveTrack track after) = move_track_kind ∷ (stamp_bytes track ++ place_bytes after)

@@ -12,16 +12,17 @@ use Rattle.mt_opcodec.specs.LogValue.{LogMap, operations}
 abbrev pub Has : LogMap → Op → Type 0
 Has log o = map.get log (op_dot o) ≡ Some o
 
--- Each operation of a log stands under its own dot and names older ones, as in every log in memory.
+-- A log that is a set: each of its operations is stored under its own dot and names only older
+-- ones, as in every log in memory.
 pub record IsSet (log : LogMap) : Type 0 where
   pub own_dot : (dot : Dot) (o : Op) → map.get log dot ≡ Some o → dot ≡ op_dot o
   pub older : (o : Op) → Has log o → IsTrue (names_are_older o)
 
--- an operation is ready among those of a log
+-- an operation is ready among the operations of a log
 abbrev pub IsReadyIn : LogMap → Op → Type 0
 IsReadyIn log o = is_ready clock_of needs meets (operations log) o ≡ true
 
--- a log that one operation has joined: it has this one and what it had, and nothing else
+-- adding o to the log gives `new`: it has o and what the log had, and nothing else
 pub record HasJoined (log : LogMap) (o : Op) (new : LogMap) : Type 0 where
   pub is_set : IsSet new
   pub there : Has new o

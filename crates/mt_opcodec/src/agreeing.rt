@@ -1,4 +1,4 @@
-//! Whether many logs agree, seen by a walk over all of them in turns.
+//! Whether many logs agree, checked by a walk over all of them in turns.
 
 ghost use Rattle.std.specs.Prelude.{◌≡◌, drop, IfOk, IsTrue, map as list_map};
 ghost use Rattle.std.specs.Option.{option_copied};
@@ -14,7 +14,7 @@ use mt_op::laws::equal_ops;
 use std::alloc::{AllocError, Allocator};
 use std::cmp::Ordering;
 
-// The operations without the first, where there is one.
+// The operations without the first, if there is one.
 fn rest_of<A: Allocator>(ops: &[Op<A>]) -> &[Op<A>]
     ensures { result.now ≡ drop 1 ops.now }
 {
@@ -41,7 +41,7 @@ fn take_ref<'a, A: Allocator, B: Allocator>(
     ops.first()
 }
 
-// Whether an operation may stand behind the last one.
+// Whether an operation may follow the last one: its dot is greater, or it is the same operation.
 fn may_stand_behind<A: Allocator>(last: Option<&Op<A>>, op: &Op<A>) -> bool
     ensures { IsTrue result → MayStandBehind (option_copied last.entry) op.now }
 {
@@ -55,7 +55,7 @@ fn may_stand_behind<A: Allocator>(last: Option<&Op<A>>, op: &Op<A>) -> bool
     }
 }
 
-// Whether nothing is left of any list.
+// Whether all lists are empty.
 fn none_left<A: Allocator>(lists: &[&[Op<A>]]) -> bool
     ensures { IsTrue result → (o : OpValue) → IsInOne (list_map (λ l. l.now) lists.now) o → ⊥ }
 {
@@ -67,8 +67,8 @@ fn none_left<A: Allocator>(lists: &[&[Op<A>]]) -> bool
     true
 }
 
-// Whether operations that are taken in these turns, each the first that is left of the list at an
-// index, are all of them and rise, but for the same one again.
+// Whether taking operations in these turns, each the first one left of the list at an index, takes
+// all of them by rising dot, where equal operations may follow one another.
 fn rise_in_turns<A: Allocator, B: Allocator>(lists: Vec<&[Op<A>], B>, merge_order: &[usize]) -> bool
     ensures { IsTrue result → AreOneEach (list_map (λ l. l.now) lists.entry.items) }
 {
@@ -86,7 +86,7 @@ fn rise_in_turns<A: Allocator, B: Allocator>(lists: Vec<&[Op<A>], B>, merge_orde
     none_left(&lists)
 }
 
-/// Whether logs are seen to agree, walked in these turns.
+/// Whether logs agree, found by a walk in these turns. `false` also if the turns are not in order.
 pub(crate) fn all_agree<A: Allocator, B: Allocator>(
     alloc: B,
     logs: &[Log<A>],

@@ -15,7 +15,7 @@ use mt_op::laws::equal_ops;
 use mt_stamp::Dot;
 use std::alloc::Allocator;
 
-// Whether what a log has under this operation's dot is another one.
+// Whether the operation that a log has under this one's dot, if any, is another one.
 pub(crate) fn is_another<A: Allocator>(there: Option<&Op<A>>, op: &Op<A>) -> bool
     ensures { (log : LogMap) → map.get log (op_dot op.now) ≡ option_copied there.entry
         → HasAnother log op.now result }
@@ -26,7 +26,7 @@ pub(crate) fn is_another<A: Allocator>(there: Option<&Op<A>>, op: &Op<A>) -> boo
     }
 }
 
-// The dot of the first of these operations that the log has another one for.
+// The dot of the first of these operations under whose dot the log has another one.
 fn first_of_ops<A: Allocator>(log: &Log<A>, ops: &[Op<A>]) -> Option<Dot>
     ensures { FirstOther log.now ops.now result }
 {
@@ -38,7 +38,7 @@ fn first_of_ops<A: Allocator>(log: &Log<A>, ops: &[Op<A>]) -> Option<Dot>
     None
 }
 
-// The same, of the operations of all these runs.
+// The dot of the first operation of these runs under whose dot the log has another one.
 pub(crate) fn first_other<A: Allocator>(log: &Log<A>, runs: &[Run<A>]) -> Option<Dot>
     ensures { FirstOther log.now (run_ops runs.now) result }
 {

@@ -6,7 +6,7 @@ use crate::fault::LogFault;
 use mt_op::Op;
 use std::alloc::Allocator;
 
-// Puts a copy of an operation at the end.
+// Appends a copy of an operation.
 fn push_copy<A: Allocator + Clone>(ops: &mut Vec<Op<A>, A>, op: &Op<A>) -> Result<(), LogFault>
     ensures ok { OnOk result (ops.new.items ≡ ops.old.items ++ (op.now ∷ [])) }
     ensures err { IfErr result (λ fault. fault ≡ LogFault.Memory) }

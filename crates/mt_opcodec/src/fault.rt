@@ -10,30 +10,30 @@ use thiserror::Error;
 
 /// Why bytes do not begin with the text of an operation: the fault of the first field, from left to
 /// right, that has one. A stamp is one field, and so are a title with its length, a digest, a
-/// number, a flag and the kind byte. So a place is a flag and, where that is 1, a stamp; a gain is
-/// two numbers; and of a Remove's tags their count and each of them are fields of their own.
+/// number, a flag and the kind byte. So a place is a flag and, if that is 1, a stamp; a gain is two
+/// numbers; and the count of a Remove's tags is a field, as is each tag.
 #[derive(Clone, Copy, Debug, PartialEq, Eq, Error)]
 pub enum ReadFault {
-    /// A growth was refused.
+    /// An allocation failed.
     #[error("out of memory")]
     Memory,
     /// The bytes end before the field does.
     #[error("the operation is cut short")]
     Truncated,
-    /// The kind byte is none of 1 to 14.
+    /// The kind byte is not 1 to 14.
     #[error("no operation has this kind byte")]
     BadTag,
     /// A complete field other than the kind byte is not allowed: a stamp whose clock or sequence
     /// number is 0 or above 2^62, a named stamp whose clock is not smaller than the operation's
     /// own, a flag that is neither 0 nor 1, a clip's length of 0, a fade of over 1,048,576 frames,
     /// a gain's divisor of 0, a Remove's count of 0, a tag of a Remove that is not greater than the
-    /// one before, or a title that is not UTF-8 or holds a character below 0x20 or 0x7F.
+    /// one before, or a title that is not UTF-8 or has a character below 0x20 or 0x7F.
     #[error("a field of the operation is out of range")]
     BadField,
 }
 
 impl ReadFault {
-    /// The refusal's number: 0, 8, 9 or 10.
+    /// The error's number: 0, 8, 9 or 10.
     pub fn number(&self) -> u8
         ensures { result ≡ read_fault_number self.now }
     {
@@ -62,43 +62,43 @@ impl<T: Drop> From<AllocFailed<T>> for ReadFault {
     }
 }
 
-/// Why bytes are not the text of a log, an operation cannot join a log, or two logs cannot be
-/// merged.
+/// Why bytes are not the text of a log, an operation cannot be added to a log, or two logs cannot
+/// be merged.
 #[derive(Clone, Copy, Debug, PartialEq, Eq, Error)]
 pub enum LogFault {
-    /// A growth was refused.
+    /// An allocation failed.
     #[error("out of memory")]
     Memory,
     /// The first four bytes are not `RMTS`.
     #[error("not a log")]
     BadMagic,
-    /// The fifth byte, which names the version, is missing or none of 1 to 3.
+    /// The fifth byte, the version, is missing or not 1 to 3.
     #[error("a log of another version")]
     BadVersion,
-    /// There are fewer than 45 bytes, as the empty log has, or the last 32 are not the SHA-256 of
-    /// those before them.
+    /// There are fewer than 45 bytes, the length of the empty log, or the last 32 are not the
+    /// SHA-256 of those before them.
     #[error("the log is damaged")]
     Damaged,
-    /// The record of this index, counted from 0, is no operation of the log's version, for this
+    /// The record of this index, counted from 0, is not an operation of the log's version, for this
     /// reason, which is never `Memory`.
     #[error("record {0} is no operation: {1}")]
     BadRecord(u64, ReadFault),
     /// The dot of the record of this index is not greater than the one before.
     #[error("record {0} is out of order")]
     OutOfOrder(u64),
-    /// Bytes stand between the last record and the digest.
+    /// There are bytes between the last record and the digest.
     #[error("bytes stand after the last record")]
     Trailing,
-    /// The version is greater than the operations ask for.
+    /// The version is greater than the operations need.
     #[error("the version is greater than the operations ask for")]
     VersionTooHigh,
-    /// The log has another operation with this dot; of two logs, each has another one.
+    /// The log has another operation with this dot; or two logs have different operations with it.
     #[error("two operations have one name")]
     Conflict(Dot),
 }
 
 impl LogFault {
-    /// The refusal's number: 0, 11 to 17 or 52.
+    /// The error's number: 0, 11 to 17 or 52.
     pub fn number(&self) -> u8
         ensures { result ≡ log_fault_number self.now }
     {

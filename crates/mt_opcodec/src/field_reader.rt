@@ -24,8 +24,8 @@ fn u16_at(bytes: &[u8]) -> Result<(u16, &[u8]), ReadFault>
     }
 }
 
-/// The number of the first 4 bytes, the greatest byte first, and the bytes after them. Refused as
-/// `Truncated` (8) where there are fewer, and for nothing else. Takes no memory.
+/// The big-endian number of the first 4 bytes, and the bytes after them. Fails with `Truncated` (8)
+/// if there are fewer; there is no other error. Allocates nothing.
 pub fn u32_at(bytes: &[u8]) -> Result<(u32, &[u8]), ReadFault>
     ensures read { Gives (λ x. (x.0, x.1.now)) result (number_at w32 bytes.now) }
     ensures err { IfErr result (λ fault. fault ≡ ReadFault.Truncated) }
@@ -36,8 +36,8 @@ pub fn u32_at(bytes: &[u8]) -> Result<(u32, &[u8]), ReadFault>
     }
 }
 
-/// The number of the first 8 bytes, the greatest byte first, and the bytes after them. Refused as
-/// `Truncated` (8) where there are fewer, and for nothing else. Takes no memory.
+/// The big-endian number of the first 8 bytes, and the bytes after them. Fails with `Truncated` (8)
+/// if there are fewer; there is no other error. Allocates nothing.
 pub fn u64_at(bytes: &[u8]) -> Result<(u64, &[u8]), ReadFault>
     ensures read { Gives (λ x. (x.0, x.1.now)) result (number_at w64 bytes.now) }
     ensures err { IfErr result (λ fault. fault ≡ ReadFault.Truncated) }
@@ -48,8 +48,8 @@ pub fn u64_at(bytes: &[u8]) -> Result<(u64, &[u8]), ReadFault>
     }
 }
 
-/// The number of the first 16 bytes, the greatest byte first, and the bytes after them. Refused as
-/// `Truncated` (8) where there are fewer, and for nothing else. Takes no memory.
+/// The big-endian number of the first 16 bytes, and the bytes after them. Fails with `Truncated`
+/// (8) if there are fewer; there is no other error. Allocates nothing.
 pub fn u128_at(bytes: &[u8]) -> Result<(u128, &[u8]), ReadFault>
     ensures read { Gives (λ x. (x.0, x.1.now)) result (number_at w128 bytes.now) }
     ensures err { IfErr result (λ fault. fault ≡ ReadFault.Truncated) }
@@ -60,7 +60,7 @@ pub fn u128_at(bytes: &[u8]) -> Result<(u128, &[u8]), ReadFault>
     }
 }
 
-// A number that is not 0.
+// Reads a number that is not 0.
 #[tactic(auto, unfolding(crate::specs::OpReading::positive_at))]
 fn positive_u32_at(bytes: &[u8]) -> Result<(u32, &[u8]), ReadFault>
     ensures { Gives (λ x. (x.0, x.1.now)) result (positive_at w32 bytes.now) }
@@ -98,7 +98,7 @@ fn moment_of(bytes: &[u8]) -> Result<(Parts, &[u8]), ReadFault>
     Ok(((clock, Replica(replica), seq), rest))
 }
 
-// The stamp of these parts, where they are in range.
+// The stamp of these parts, if they are in range.
 fn in_range(parts: Parts) -> Option<Stamp>
     ensures { result ≡ (if is_stamp (record { clock = parts.0; replica = parts.1; seq = parts.2 })
         then Some (record { clock = parts.0; replica = parts.1; seq = parts.2 }) else None) }
@@ -128,7 +128,7 @@ pub(crate) fn older_stamp_of(clock: u64, bytes: &[u8]) -> Result<(Stamp, &[u8]),
     }
 }
 
-// The place that a track is put after, where the flag says that there is one.
+// The place that a track is put after, if the flag is 1.
 #[tactic(auto, unfolding(crate::specs::OpReading::after_at))]
 fn after_of(clock: u64, there: bool, bytes: &[u8]) -> Result<(Option<Stamp>, &[u8]), ReadFault>
     ensures { Gives (λ x. (x.0, x.1.now)) result (after_at clock there bytes.now) }
@@ -168,7 +168,7 @@ pub(crate) fn title_of<A: Allocator>(alloc: A, bytes: &[u8]) -> Result<(Title<A>
     }
 }
 
-// The title of these bytes, where they are one.
+// The title of these bytes, if they are a valid title.
 fn read_title<A: Allocator>(alloc: A, bytes: &[u8]) -> Result<Title<A>, ReadFault>
     ensures { Gives (λ title. title) result (title_of_bytes bytes.now) }
 {
@@ -192,7 +192,7 @@ pub(crate) fn digest_of(bytes: &[u8]) -> Result<(Digest, &[u8]), ReadFault>
     }
 }
 
-// From which frame of its recording on a clip plays, and how many frames.
+// The first frame of its recording that a clip plays, and the number of frames.
 type Trim = (u32, u32);
 
 #[tactic(auto, unfolding(crate::specs::OpReading::trim_at))]
@@ -204,7 +204,7 @@ pub(crate) fn trim_of(bytes: &[u8]) -> Result<(Trim, &[u8]), ReadFault>
     Ok(((offset, len), rest))
 }
 
-// How many frames a fade lasts, which are not too many.
+// The length of a fade in frames, at most the longest allowed.
 #[tactic(auto, unfolding(crate::specs::OpReading::fade_at))]
 fn fade_of(bytes: &[u8]) -> Result<(u32, &[u8]), ReadFault>
     ensures { Gives (λ x. (x.0, x.1.now)) result (fade_at bytes.now) }
@@ -217,7 +217,7 @@ fn fade_of(bytes: &[u8]) -> Result<(u32, &[u8]), ReadFault>
     }
 }
 
-// Over how many frames a clip fades in, and over how many out.
+// The lengths of a clip's fade-in and fade-out in frames.
 type Fades = (u32, u32);
 
 #[tactic(auto, unfolding(crate::specs::OpReading::fades_at))]
@@ -229,7 +229,7 @@ pub(crate) fn fades_of(bytes: &[u8]) -> Result<(Fades, &[u8]), ReadFault>
     Ok(((fade_in, fade_out), rest))
 }
 
-// The gain of these parts, where the second is not 0.
+// The gain of these parts, if the second is not 0.
 fn gain_from(num: u16, den: u16) -> Option<Gain>
     ensures { result ≡ (if den == 0 then None else Some (record { num = num; den = den })) }
 {
@@ -248,7 +248,7 @@ pub(crate) fn gain_of(bytes: &[u8]) -> Result<(Gain, &[u8]), ReadFault>
     }
 }
 
-// Whether a stamp is greater than the one before it, where there is one.
+// Whether a stamp is greater than the one before it, if there is one.
 fn is_after(last: Option<Stamp>, tag: Stamp) -> bool
     ensures { result ≡ is_after stamp_cmp last tag }
 {
@@ -269,13 +269,13 @@ fn tag_of(clock: u64, last: Option<Stamp>, bytes: &[u8]) -> Result<(Stamp, &[u8]
     }
 }
 
-// Up to so many tags get a block of their own size: most removals list one or two.
+// Up to this many tags get an allocation of exactly their size: most removals list one or two.
 const FEW: u16 = 4;
 
-// How many bytes a stamp has.
+// The length of a stamp in bytes.
 const STAMP_LEN: usize = 32;
 
-// This many tags, pushed as they are read: the count alone takes no memory.
+// Reads this many tags, pushing each as it is read: the count alone allocates nothing.
 fn stamps_of<A: Allocator>(
     alloc: A,
     count: u16,

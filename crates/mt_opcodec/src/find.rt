@@ -8,7 +8,7 @@ use mt_stamp::Replica;
 use std::alloc::Allocator;
 use std::cmp::Ordering;
 
-// The place of a replica's run, or the one at which it would go. The replicas have to rise.
+// The index of a replica's run, or the one at which it would be inserted. The replicas must rise.
 pub(crate) fn find_run<A: Allocator>(runs: &[Run<A>], replica: Replica) -> Result<usize, usize>
     requires { RunsRise runs.now }
     ensures found { IfOk result (IsRunAt runs.now replica) }
@@ -24,7 +24,7 @@ pub(crate) fn find_run<A: Allocator>(runs: &[Run<A>], replica: Replica) -> Resul
     }
 }
 
-// The same, by halving.
+// Finds the index of a replica's run, or the one at which it would be inserted, by bisection.
 fn halve<A: Allocator>(runs: &[Run<A>], replica: Replica) -> Result<usize, usize>
     requires { RunsRise runs.now }
     ensures found { IfOk result (IsRunAt runs.now replica) }

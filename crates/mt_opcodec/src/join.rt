@@ -1,4 +1,4 @@
-//! Joining the runs of two logs without copying them.
+//! Joining the runs of two logs by moving them.
 
 ghost use Rattle.std.specs.Prelude.{◌≡◌, ◌++◌, ◌∷◌, [], Some, slice_get, drop, IfOk, IfErr, OnOk};
 ghost use Rattle.mt_opcodec.specs.LogValue.{log_of};
@@ -19,7 +19,7 @@ pub(crate) enum NextRun {
     End,
 }
 
-// Which log has the next run: the one whose replica is smaller.
+// Which log has the next run: the one with the smaller replica.
 fn next_run<A: Allocator>(left: &VecDeque<Run<A>, A>, right: &VecDeque<Run<A>, A>) -> NextRun
     ensures { RunComes (slice_get left.now.items 0) (slice_get right.now.items 0) result }
 {
@@ -35,7 +35,7 @@ fn next_run<A: Allocator>(left: &VecDeque<Run<A>, A>, right: &VecDeque<Run<A>, A
     }
 }
 
-// Moves the first run, where there is one, to the end of others.
+// Moves the first run, if there is one, to the end of other runs.
 fn move_run<A: Allocator>(
     from: &mut VecDeque<Run<A>, A>,
     runs: &mut Vec<Run<A>, A>,
@@ -50,7 +50,7 @@ fn move_run<A: Allocator>(
     Ok(())
 }
 
-// Joins the first run of both, of one replica, and puts it at the end of others.
+// Joins the first run of each log, both of one replica, and appends the result.
 fn join_first<A: Allocator + Clone>(
     left: &mut VecDeque<Run<A>, A>,
     right: &mut VecDeque<Run<A>, A>,
@@ -84,7 +84,7 @@ fn join_first<A: Allocator + Clone>(
     }
 }
 
-// The runs of both, walked at once and moved.
+// The runs of the union of two logs: both are walked at once and their runs moved.
 pub(crate) fn joined_runs<A: Allocator + Clone>(
     left: Vec<Run<A>, A>,
     right: Vec<Run<A>, A>,

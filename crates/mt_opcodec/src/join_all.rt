@@ -12,13 +12,13 @@ use crate::seen::first_conflict;
 use std::alloc::Allocator;
 use std::collections::VecDeque;
 
-// Up to so many logs are joined from left to right: a walk over what was joined before costs less
-// then than a look at each operation of all logs.
+// Up to this many logs are joined from left to right: then a walk over what was joined before costs
+// less than a look at each operation of all logs.
 const FEW: usize = 4;
 
-// Up to so many logs that agree are joined by halves, and more one operation after another where
-// they take turns often: that is one move for each, where halving takes one for each doubling of
-// the number of logs.
+// Up to this many logs that agree are joined by halves. More are joined one operation at a time if
+// they take turns often: that moves each operation once, where joining by halves moves it once for
+// each doubling of the number of logs.
 const MANY: usize = 16;
 
 // The union of the logs, joined from left to right.
@@ -36,8 +36,8 @@ fn join_from_left<A: Allocator + Clone>(alloc: A, logs: Vec<Log<A>, A>) -> Resul
     }
 }
 
-// The union of logs that agree: those of one half are joined, then those of the other, and then
-// both. Runs that no other log has, or that follow one another, are moved whole.
+// The union of logs that agree: joins those of one half, then those of the other, and then both.
+// Runs that no other log has, or that follow one another, are moved whole.
 fn join_halves<A: Allocator + Clone>(alloc: A, logs: Vec<Log<A>, A>) -> Result<Log<A>, LogFault>
     requires agree { PairsAgree logs.items }
     ensures ok { IfOk result (λ all. all ≡ union_all logs.items) }
@@ -57,7 +57,7 @@ fn join_halves<A: Allocator + Clone>(alloc: A, logs: Vec<Log<A>, A>) -> Result<L
     left.join_agreeing(right)
 }
 
-// The union of logs that agree and take these turns.
+// The union of logs that agree and have these turns.
 fn join_agreed<A: Allocator + Clone>(
     alloc: A,
     logs: Vec<Log<A>, A>,
@@ -74,8 +74,8 @@ fn join_agreed<A: Allocator + Clone>(
 }
 
 impl<A: Allocator + Clone> Log<A> {
-    /// The union of two logs that agree, made as `join` makes it; `clash` tells whether they do.
-    /// Refused only as `Memory` (0), where an allocation failed; both are then dropped.
+    /// The union of two logs that agree, made as `join` makes it; `conflict` finds out whether they
+    /// do. The only error is `Memory` (0): an allocation failed. Both logs are then dropped.
     pub fn join_agreeing(self, other: Self) -> Result<Self, LogFault>
         requires agree { Agree self other }
         ensures ok { IfOk result (λ all. all ≡ union self other) }
@@ -87,17 +87,16 @@ impl<A: Allocator + Clone> Log<A> {
         }
     }
 
-    /// The union of logs: each operation that any of them has, once, moved out of them. Refused as
-    /// `Conflict` (17) where a log has another operation under a dot than the logs before it, with
-    /// the least such dot of the first such log, and as `Memory` (0) where an allocation failed;
-    /// all are then dropped.
+    /// The union of logs: each operation that any of them has, once, moved out of them. Fails with
+    /// `Conflict` (17) if a log has another operation under a dot than the logs before it, with the
+    /// least such dot of the first such log, and with `Memory` (0) if an allocation failed. All
+    /// logs are then dropped.
     ///
-    /// Four logs or fewer are joined one after another. Of more it is first seen whether they
-    /// agree, by one walk over all of them by rising dot, which takes memory for the index of a run
-    /// for each operation, and looks up all in a map of references where they do not. Up to sixteen
-    /// are then joined by halves, and so are more where they take turns seldom, which moves whole
-    /// runs; else each operation is moved once, in the order of the walk. n operations in k logs
-    /// cost n log k looks.
+    /// Up to four logs are joined one by one. For more, a walk by rising dot checks if they agree:
+    /// it allocates a run index for each operation, and, if they do not, a map of references to
+    /// all. Up to sixteen logs, or more that seldom take turns, are joined by halves, which moves
+    /// whole runs; otherwise a k-way merge moves each operation once. n operations in k logs cost n
+    /// log k steps.
     pub fn join_all(alloc: A, logs: Vec<Log<A>, A>) -> Result<Log<A>, LogFault>
         ensures ok { IfOk result (λ all. AllAgree logs.items × (all ≡ union_all logs.items)) }
         ensures err { IfErr result (JoinAllFails logs.items) }

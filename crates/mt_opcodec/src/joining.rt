@@ -24,7 +24,7 @@ pub(crate) enum Next {
     End,
 }
 
-// Which run has the next operation: the one whose dot is smaller.
+// Which run has the next operation: the one with the smaller dot.
 fn next_front<A: Allocator>(left: &VecDeque<Op<A>, A>, right: &VecDeque<Op<A>, A>) -> Next
     ensures { ComesNext (slice_get left.now.items 0) (slice_get right.now.items 0) result }
 {
@@ -41,7 +41,7 @@ fn next_front<A: Allocator>(left: &VecDeque<Op<A>, A>, right: &VecDeque<Op<A>, A
     }
 }
 
-// Moves the first operation, where there is one, to the end of others.
+// Moves the first operation, if there is one, to the end of others.
 fn move_first<A: Allocator>(
     from: &mut VecDeque<Op<A>, A>,
     ops: &mut Vec<Op<A>, A>,
@@ -56,7 +56,7 @@ fn move_first<A: Allocator>(
     Ok(())
 }
 
-// The refusal of another operation under the dot of the first.
+// The conflict at the dot of the first operation.
 fn conflict_at<A: Allocator>(left: &VecDeque<Op<A>, A>) -> LogFault
     ensures { (o : OpValue) → slice_get left.now.items 0 ≡ Some o → result
         ≡ LogFault.Conflict (op_dot o) }
@@ -67,7 +67,7 @@ fn conflict_at<A: Allocator>(left: &VecDeque<Op<A>, A>) -> LogFault
     }
 }
 
-// The operations of both, walked at once and moved.
+// The operations of the union: both lists are walked at once and their operations moved.
 fn walked_ops<A: Allocator + Clone>(
     left: Vec<Op<A>, A>,
     right: Vec<Op<A>, A>,
@@ -97,7 +97,7 @@ fn walked_ops<A: Allocator + Clone>(
     }
 }
 
-// Whether all dots of the left are smaller than those of the right. Both have to rise.
+// Whether all dots of the left are smaller than those of the right. The dots of each must rise.
 fn ends_before<A: Allocator>(left: &[Op<A>], right: &[Op<A>]) -> bool
     requires left { IsTrue (dots_rise left.now) }
     requires right { IsTrue (dots_rise right.now) }
@@ -122,8 +122,8 @@ fn appended_ops<A: Allocator>(
     Ok(ops)
 }
 
-// The operations of both, moved: those of one after those of the other where they can stand so, and
-// walked at once where not.
+// The operations of the union, moved: one list is appended to the other if their dots allow it, and
+// otherwise both are walked at once.
 pub(crate) fn joined_ops<A: Allocator + Clone>(
     left: Vec<Op<A>, A>,
     right: Vec<Op<A>, A>,

@@ -1,4 +1,4 @@
-//! The union of logs that agree, made by moving one operation after another.
+//! The union of logs that agree, as a k-way merge that moves one operation at a time.
 
 ghost use Rattle.std.specs.Prelude.{◌≡◌, ◌++◌, ◌∷◌, [], Some, slice_get, drop, IfOk, IfErr, OnOk};
 ghost use Rattle.std.specs.Prelude.{map as list_map};
@@ -18,7 +18,7 @@ use mt_op::Op;
 use std::alloc::{AllocError, Allocator};
 use std::collections::VecDeque;
 
-// Puts the operations of each run, as a list of its own, behind others.
+// Appends the operations of each run, as a separate list.
 fn push_runs<A: Allocator>(
     lists: &mut Vec<VecDeque<Op<A>, A>, A>,
     runs: Vec<Run<A>, A>,
@@ -52,7 +52,7 @@ fn lists_of<A: Allocator>(
     }
 }
 
-// Takes the first operation, if there is one. Once none is left the list gives its memory back.
+// Takes the first operation, if there is one. An emptied list frees its memory.
 fn pop_first<A: Allocator>(list: &mut VecDeque<Op<A>, A>) -> Option<Op<A>>
     ensures first { result ≡ slice_get list.old.items 0 }
     ensures rest { list.new.items ≡ drop 1 list.old.items }
@@ -139,8 +139,8 @@ fn add_lists<A: Allocator + Clone>(
     }
 }
 
-/// The union of logs that agree, made by moving one operation after another: in these turns, each
-/// the first that is left of a run, and then what is left.
+/// The union of logs that agree, as a k-way merge that moves one operation at a time: first in
+/// these turns, each moving the first operation left of a run, and then all that are left.
 pub(crate) fn join_in_turns<A: Allocator + Clone>(
     alloc: A,
     logs: Vec<Log<A>, A>,

@@ -29,9 +29,9 @@ use std::alloc::{AllocError, Allocator, Global};
 use std::collections::VecDeque;
 use std::marker::Model;
 
-/// A log: operations by rising dot, no two of them with one dot. Seen as the finite map from dot to
-/// operation. Logs are equal where they have the same operations. Kept as one run of operations for
-/// each replica.
+/// A log: operations by rising dot, no two with the same dot. Its value is the finite map from dot
+/// to operation. Logs are equal if they have the same operations. Stored as one run of operations
+/// for each replica.
 #[derive(Drop)]
 pub struct Log<A: Allocator = Global> {
     runs: Vec<Run<A>, A>,
@@ -58,7 +58,7 @@ impl<A: Allocator> Log<A> {
     ghost use Rattle.mt_op.specs.OpValue.{Op as OpValue};
     ghost use Rattle.mt_opcodec.specs.Union.{Agree, union, IsFirstConflict, MergeFails};
 
-    /// The log of no operation. Takes no memory.
+    /// The empty log. Allocates nothing.
     pub fn new(alloc: A) -> Self
         ensures { result ≡ map.empty }
     {
@@ -68,20 +68,20 @@ impl<A: Allocator> Log<A> {
         }
     }
 
-    /// The runs of its replicas, by rising replica: one after another they are the operations by
-    /// rising dot.
+    /// The runs of the log, one for each replica, by rising replica. Concatenated they are the
+    /// operations by rising dot.
     pub fn runs(&self) -> &[Run<A>]
         ensures value { run_ops result.now ≡ operations self.now }
         ensures runs { AreRuns result.now }
         ensures logged { AreLogged (operations self.now) }
         ensures whole { log_of (operations self.now) ≡ self.now }
     {
-        // for the proof: that the runs are those of a log
+        // for the proof: reading both fields shows that the runs are those of a log
         let _ = self.count;
         &self.runs
     }
 
-    // Its runs.
+    // The runs of the log, moved out of it.
     pub(crate) fn into_runs(self) -> Vec<Run<A>, A>
         ensures runs { AreRuns result.items }
         ensures value { log_of (run_ops result.items) ≡ self }
@@ -90,23 +90,24 @@ impl<A: Allocator> Log<A> {
         runs
     }
 
-    /// How many operations there are.
+    /// The number of operations.
     pub fn len(&self) -> usize
         ensures { result ≡ map.len self.now }
     {
-        // for the proof: that the count is that of the operations in the runs
+        // for the proof: reading both fields shows that the count is that of the operations in the
+        // runs
         let _ = &self.runs;
         self.count
     }
 
-    /// Whether there is no operation.
+    /// Whether the log has no operation.
     pub fn is_empty(&self) -> bool
         ensures { IsTrue result ↔ (map.len self.now ≡ 0) }
     {
         self.len() == 0
     }
 
-    /// The operation with this dot, or `None` where the log has none.
+    /// The operation with this dot, or `None` if the log has none.
     pub fn get(&self, dot: &Dot) -> Option<&Op<A>>
         ensures { option_copied result ≡ map.get self.now dot.now }
     {
@@ -124,23 +125,23 @@ impl<A: Allocator> Log<A> {
         is_another(self.get(&op.dot()), op)
     }
 
-    /// The operation at place `i`, counted from 0 by rising dot, or `None` where `i` is `len()` or
-    /// more. Counts the operations of each replica before it.
+    /// The operation at index `i`, counted from 0 by rising dot, or `None` if `i` is `len()` or
+    /// more. Takes time linear in the number of replicas.
     pub fn op_at(&self, i: usize) -> Option<&Op<A>>
         ensures { option_copied result ≡ slice_get (operations self.now) i }
     {
         op_of_runs(self.runs(), i)
     }
 
-    /// References to the operations, by rising dot. Takes memory for them alone.
+    /// References to the operations, by rising dot. Allocates only the list of references.
     pub fn refs<B: Allocator>(&self, alloc: B) -> Result<Vec<&Op<A>, B>, AllocError>
         ensures { IfOk result (λ refs. list_map (λ o. o.now) refs.items ≡ operations self.now) }
     {
         refs_of_runs(alloc, self.runs())
     }
 
-    /// The least dot that names one operation in this log and another in the other one, or `None`
-    /// where they agree. Takes no memory. Looks up each operation of the other log in this one.
+    /// The least dot that names different operations in the two logs, or `None` if they agree.
+    /// Allocates nothing. Looks up each operation of the other log in this one.
     pub fn conflict(&self, other: &Self) -> Option<Dot>
         ensures conflict { IfSome result (IsFirstConflict self.now other.now) }
         ensures none { result ≡ None → Agree self.now other.now }
@@ -148,7 +149,7 @@ impl<A: Allocator> Log<A> {
         first_other(self, other.runs())
     }
 
-    // What adding an operation answers where there is no room for a new one.
+    // What adding an operation returns if there is no room for a new one.
     fn found_as(&self, op: &Op<A>) -> Result<bool, LogFault>
         ensures answer { Adds op.now self.now result }
         ensures old { result ≢ Ok true }
@@ -160,8 +161,8 @@ impl<A: Allocator> Log<A> {
         }
     }
 
-    // The log of runs. Refused as `Memory` (0) where they have more operations than a number
-    // counts.
+    // The log of these runs. Fails with `Memory` (0) if they have more operations than `usize` can
+    // count.
     fn of(runs: Vec<Run<A>, A>) -> Result<Self, LogFault>
         requires runs { AreRuns runs.items }
         ensures ok { IfOk result (λ log. log ≡ log_of (run_ops runs.items)) }
@@ -179,30 +180,30 @@ impl<A: Allocator + Clone> Log<A> {
     ghost use Rattle.mt_opcodec.specs.LogReading.{LogGives, log_at};
     ghost use Rattle.mt_opcodec.specs.Union.{Agree, union, MergeFails};
 
-    /// Reads the text of a log. Refused, in this order: `BadMagic` (11) where the first four bytes
-    /// are missing or not `RMTS`, `BadVersion` (12) where the fifth is missing or none of 1 to 3,
-    /// `Damaged` (13) where there are fewer than 45 bytes or the digest does not agree; then record
-    /// by record, counted from 0, `BadRecord` (14) where it is no operation, or one that came with
-    /// a later version, and `OutOfOrder` (15) where its dot is not greater than the one before;
-    /// then `Trailing` (16) where bytes stand between the last record and the digest; last
-    /// `VersionTooHigh` (52) where no operation asks for that version, and it is not 1. `Memory`
-    /// (0) is answered where an allocation failed. Memory is taken record by record, never for the
-    /// number of them that the text gives.
+    /// Reads the text of a log. The errors, in this order: `BadMagic` (11) if the first four bytes
+    /// are missing or not `RMTS`; `BadVersion` (12) if the fifth is missing or not 1 to 3;
+    /// `Damaged` (13) if there are fewer than 45 bytes or the digest does not agree; then record by
+    /// record, counted from 0, `BadRecord` (14) if it is not an operation, or a kind of a later
+    /// version, and `OutOfOrder` (15) if its dot is not greater than the one before; then
+    /// `Trailing` (16) if there are bytes between the last record and the digest; last
+    /// `VersionTooHigh` (52) if no operation needs that version, and it is not 1. `Memory` (0)
+    /// comes whenever an allocation fails. Allocates record by record, never for the number of
+    /// records that the text gives.
     pub fn read(alloc: A, bytes: &[u8]) -> Result<Self, LogFault>
-        // What is read is the log text of its operations.
+        // If it succeeds, the bytes are the log text of the operations.
         ensures found { IfOk result (λ log. bytes.now ≡ log_bytes (operations log)) }
-        // The log text of operations is read as them, unless memory ran out.
+        // The log text of operations is read as these operations, unless an allocation fails.
         ensures only { (ops : List OpValue) → AreLogged ops → length ops < 2 ^ 64 → bytes.now
             ≡ log_bytes ops
             → LogGives operations result (Ok ops) }
-        // Which fault it is.
+        // Which error is returned.
         ensures exact { LogGives operations result (log_at bytes.now) }
     {
         log_of_text(alloc, bytes)
     }
 
-    /// The log's text: 45 bytes and those of its operations, in the least version that has them.
-    /// Refused only as `Memory` (0), where an allocation failed.
+    /// The log's text: 45 bytes and the texts of its operations, in the least version that has all
+    /// their kinds. The only error is `Memory` (0): an allocation failed.
     pub fn write(&self) -> Result<Vec<u8, A>, LogFault>
         ensures ok { IfOk result (λ text. text.items ≡ log_bytes (operations self.now)) }
         ensures err { IfErr result (λ fault. fault ≡ LogFault.Memory) }
@@ -214,8 +215,8 @@ impl<A: Allocator + Clone> Log<A> {
         Ok(text)
     }
 
-    /// The log of operations whose dots rise, moved into runs. Refused as `Memory` (0) where an
-    /// allocation failed, and for nothing else.
+    /// The log of operations whose dots rise, moved into runs. The only error is `Memory` (0): an
+    /// allocation failed.
     pub fn of_ops(alloc: A, ops: Vec<Op<A>, A>) -> Result<Self, LogFault>
         requires rising { AreLogged ops.items }
         ensures ok { IfOk result (λ log. log ≡ log_of ops.items) }
@@ -227,7 +228,8 @@ impl<A: Allocator + Clone> Log<A> {
             match rest.pop_front() {
                 Some(op) => add_last(&mut log, op)?,
                 None => {
-                    // for the proof: that the log is the one of its operations
+                    // for the proof: reading the runs shows that the log is the one of its
+                    // operations
                     let _ = log.runs();
                     return Ok(log);
                 }
@@ -235,10 +237,10 @@ impl<A: Allocator + Clone> Log<A> {
         }
     }
 
-    /// Adds one operation: `true` where it is new, and `false` where the same one is there. Refused
-    /// as `Conflict` (17) with its dot where another operation has that dot, and as `Memory` (0)
-    /// where an allocation failed. After `false` or a refusal the log is unchanged, and the
-    /// operation is dropped.
+    /// Adds one operation: `true` if it is new, and `false` if the same one is there already. Fails
+    /// with `Conflict` (17) and its dot if another operation has that dot, and with `Memory` (0) if
+    /// an allocation failed. After `false` or an error the log is unchanged, and the operation is
+    /// dropped.
     pub fn add(&mut self, op: Op<A>) -> Result<bool, LogFault>
         ensures answer { Adds op self.old result }
         ensures added { result ≡ Ok true → self.new ≡ map.insert self.old (op_dot op) op }
@@ -256,11 +258,11 @@ impl<A: Allocator + Clone> Log<A> {
         }
     }
 
-    /// The union of two logs: each operation that either has, once, moved out of them. Refused as
-    /// `Conflict` (17) with the least dot that names one operation in this log and another in the
-    /// other one, and as `Memory` (0) where an allocation failed; both are then dropped. A run of a
-    /// replica that only one has is moved whole, and one that begins where the other ends is put
-    /// after it; else both are walked at once.
+    /// The union of two logs: each operation that either has, once, moved out of them. Fails with
+    /// `Conflict` (17) and the least dot that names different operations in the two logs, and with
+    /// `Memory` (0) if an allocation failed; both are then dropped. The run of a replica that only
+    /// one log has is moved whole, and a run whose numbers follow those of the other log is
+    /// appended; all others are walked at once.
     pub fn join(self, other: Self) -> Result<Self, LogFault>
         ensures ok { IfOk result (λ log. Agree self other × (log ≡ union self other)) }
         ensures err { IfErr result (MergeFails self other) }
@@ -273,8 +275,8 @@ impl<A: Allocator + Clone> Log<A> {
         }
     }
 
-    /// The union of two logs, as `join` makes it of copies of both, on this allocator. Its time is
-    /// linear in their operations.
+    /// The union of two logs, made as `join` makes it from copies of both, on this allocator. Takes
+    /// time linear in the number of operations.
     pub fn merge(alloc: A, left: &Self, right: &Self) -> Result<Self, LogFault>
         ensures ok { IfOk result (λ log. Agree left.now right.now
             × (log ≡ union left.now right.now)) }
@@ -285,8 +287,8 @@ impl<A: Allocator + Clone> Log<A> {
         copy.join(other)
     }
 
-    /// An equal log, on a clone of the allocator. Refused as `Memory` (0) where an allocation
-    /// failed, and for nothing else.
+    /// An equal log, on a clone of the allocator. The only error is `Memory` (0): an allocation
+    /// failed.
     pub fn try_clone(&self) -> Result<Self, LogFault>
         ensures ok { IfOk result (λ log. log ≡ self.now) }
         ensures err { IfErr result (λ fault. fault ≡ LogFault.Memory) }
@@ -303,19 +305,19 @@ impl<A: Allocator + Clone> Log<A> {
         Log::of(runs)
     }
 
-    // The allocator that the log keeps.
+    // The allocator of the log.
     fn allocator(&self) -> &A {
         self.runs.allocator()
     }
 }
 
-// Adds an operation whose dot is greater than those of the log. Refused as `Memory` (0) alone.
+// Adds an operation whose dot is greater than all dots of the log. The only error is `Memory` (0).
 pub(crate) fn add_last<A: Allocator + Clone>(log: &mut Log<A>, op: Op<A>) -> Result<(), LogFault>
     requires last { IsGapFor (operations log.old) (op_dot op) (length (operations log.old)) }
     ensures ok { OnOk result (operations log.new ≡ operations log.old ++ (op ∷ [])) }
     ensures err { IfErr result (λ fault. fault ≡ LogFault.Memory) }
 {
-    // for the proof: that the operation is one, and that those of the log rise by dot
+    // for the proof: that the operation is valid, and that the dots of the log rise
     let _ = op.dot();
     let _ = log.runs();
     match log.add(op) {
@@ -324,7 +326,7 @@ pub(crate) fn add_last<A: Allocator + Clone>(log: &mut Log<A>, op: Op<A>) -> Res
     }
 }
 
-// Writes the texts of operations, and tells the version that they ask for.
+// Appends the texts of operations, and returns the version that they need.
 fn put_ops<A: Allocator, B: Allocator>(
     out: &mut Vec<u8, A>,
     ops: &[Op<B>],
@@ -340,10 +342,10 @@ fn put_ops<A: Allocator, B: Allocator>(
     Ok(version)
 }
 
-// Where a log's text tells its version.
+// The index of the version byte in a log's text.
 const VERSION_PLACE: usize = 4;
 
-// Writes all that the digest is made of. The version is written once all operations were seen.
+// Writes everything that the digest covers. The version byte is set after all operations were seen.
 fn put_records<A: Allocator, B: Allocator>(
     out: &mut Vec<u8, A>,
     count: usize,
@@ -364,7 +366,7 @@ fn put_records<A: Allocator, B: Allocator>(
     Ok(())
 }
 
-// By their texts, of which each operation has its own.
+// Compares the texts, since each operation has exactly one.
 impl<A: Allocator> PartialEq for Log<A> {
     ghost use Rattle.std.specs.Prelude.{nat_eq};
     ghost use Rattle.std.specs.Cmp.{on_per, partial_equiv_from_equiv};

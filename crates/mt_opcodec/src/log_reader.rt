@@ -42,8 +42,8 @@ fn fault_of(index: u64, cause: ReadFault) -> LogFault
     }
 }
 
-// The operation at the front of the bytes, in a log of this version, as the record of this index
-// after the dot `last`.
+// Reads the operation at the front of the bytes, in a log of this version, as the record with this
+// index after the dot `last`.
 fn record_of<A: Allocator>(
     alloc: A,
     version: u8,
@@ -66,11 +66,11 @@ fn record_of<A: Allocator>(
     }
 }
 
-/// Reads this many operations of any kind, by rising dot, and nothing after them. Refused record by
-/// record, counted from 0: `BadRecord` (14) where it is no operation, `OutOfOrder` (15) where its
-/// dot is not greater than the one before; last `Trailing` (16) where bytes stand after them.
-/// `Memory` (0) is answered where an allocation failed. Memory is taken record by record, never for
-/// the count.
+/// Reads this many operations of any kind, by rising dot, with nothing after them. The errors come
+/// record by record, counted from 0: `BadRecord` (14) if it is not an operation, `OutOfOrder` (15)
+/// if its dot is not greater than the one before; last `Trailing` (16) if there are bytes after
+/// them. `Memory` (0) comes whenever an allocation fails. Allocates record by record, never for the
+/// count.
 pub fn read_ops<A: Allocator + Clone>(
     alloc: A,
     count: u64,
@@ -98,7 +98,7 @@ pub fn read_ops<A: Allocator + Clone>(
     Ok(ops)
 }
 
-// Whether the fifth byte is there and names a version.
+// Whether there is a fifth byte and it is a version.
 fn has_version(bytes: &[u8]) -> bool
     ensures { result ≡ is_version (version_byte bytes.now) }
 {
@@ -108,7 +108,7 @@ fn has_version(bytes: &[u8]) -> bool
     }
 }
 
-// The bytes before the digest, once the frame is seen to be whole.
+// The bytes before the digest, after checking that magic, version, length and digest are right.
 #[tactic(auto, unfolding(crate::specs::LogReading::sealed_at))]
 fn sealed_body(bytes: &[u8]) -> Result<&[u8], LogFault>
     ensures body { LogGives (λ body. body.now) result (sealed_at bytes.now) }
@@ -137,7 +137,7 @@ fn is_digest_of(body: &[u8], digest: &[u8]) -> bool
     sha256_of(body).as_slice() == digest
 }
 
-// The log, where its operations ask for no earlier version than this one.
+// The log, if its operations need a version of at least this one; version 1 always passes.
 fn in_version<A: Allocator>(log: Log<A>, asked: u8, version: u8) -> Result<Log<A>, LogFault>
     requires { asked ≡ version_of (operations log) }
     ensures { LogGives operations result (in_version version (operations log)) }
@@ -180,7 +180,7 @@ fn read_log<A: Allocator + Clone>(
     }
 }
 
-// The operations that a log's head counts, in its version.
+// The operations that a log's head counts, in the version that it gives.
 #[tactic(auto, unfolding(crate::specs::LogReading::counted_at))]
 fn counted_log<A: Allocator + Clone>(alloc: A, body: &[u8]) -> Result<Log<A>, LogFault>
     requires { 13 ≤ length body.now }
@@ -193,7 +193,7 @@ fn counted_log<A: Allocator + Clone>(alloc: A, body: &[u8]) -> Result<Log<A>, Lo
     read_log(alloc, head[4], count, records)
 }
 
-// The log of a text.
+// Reads the text of a log.
 pub(crate) fn log_of_text<A: Allocator + Clone>(alloc: A, bytes: &[u8]) -> Result<Log<A>, LogFault>
     ensures { LogGives operations result (log_at bytes.now) }
 {

@@ -1,4 +1,4 @@
-//! In which order many logs take turns: whose operation is the next one of their union.
+//! The order in which many logs take turns: which one has the next operation of their union.
 
 ghost use Rattle.std.specs.Prelude.{◌≡◌, ◌++◌, IfOk, OnOk, map as list_map};
 ghost use Rattle.mt_opcodec.specs.Runs.{RunOf};
@@ -10,7 +10,7 @@ use mt_op::Op;
 use mt_stamp::Replica;
 use std::alloc::{AllocError, Allocator};
 
-// Puts the operations of each run, as a list of its own, behind others.
+// Appends the operations of each run, as a separate list.
 fn push_runs<'a, A: Allocator, B: Allocator>(
     lists: &mut Vec<&'a [Op<A>], B>,
     runs: &'a [Run<A>],
@@ -53,7 +53,7 @@ fn by_replica<A: Allocator, B: Allocator>(
     Ok(order)
 }
 
-// How many of these are of the first one's replica.
+// The number of leading entries of the first one's replica.
 fn of_one_replica(order: &[(Replica, usize)]) -> usize {
     let Some((replica, _)) = order.first() else {
         return 0;
@@ -66,7 +66,7 @@ fn of_one_replica(order: &[(Replica, usize)]) -> usize {
     order.len()
 }
 
-// The turns of one run that no other log has.
+// Appends the turns of a run whose replica no other log has.
 fn put_run<A: Allocator, B: Allocator>(
     merge_order: &mut Vec<usize, B>,
     ops: &[Op<A>],
@@ -78,7 +78,7 @@ fn put_run<A: Allocator, B: Allocator>(
     Ok(())
 }
 
-// The numbers of operations, each with the index of their run, at the end of others.
+// Appends the numbers of operations, each with the index of their run.
 fn put_numbers<A: Allocator, B: Allocator>(
     numbers: &mut Vec<(u64, usize), B>,
     ops: &[Op<A>],
@@ -90,7 +90,7 @@ fn put_numbers<A: Allocator, B: Allocator>(
     Ok(())
 }
 
-// The turns of runs of one replica, by the numbers of their operations.
+// Appends the turns of the runs of one replica, by the numbers of their operations.
 fn put_turns<A: Allocator, B: Allocator>(
     alloc: B,
     merge_order: &mut Vec<usize, B>,
@@ -113,7 +113,7 @@ fn put_turns<A: Allocator, B: Allocator>(
     Ok(())
 }
 
-// How many operations logs have, up to the greatest number.
+// The number of operations of all logs; if that overflows, the greatest number.
 fn ops_in<A: Allocator>(logs: &[Log<A>]) -> usize {
     let mut count: usize = 0;
     for log in logs {
@@ -122,9 +122,9 @@ fn ops_in<A: Allocator>(logs: &[Log<A>]) -> usize {
     count
 }
 
-/// The turns that logs take, an index of a run for each operation, among the runs of the first log,
-/// of the second and so on: at each turn the operation of the least dot comes. It only tells in
-/// which order a walk over all logs is short. Takes memory for an index an operation, and for the
+/// The turns of these logs: for each operation of all logs, by rising dot, the index of its run
+/// among the runs of the first log, of the second, and so on. They only make a walk over all logs
+/// short; nothing else depends on them. Allocates an index for each operation, and a list of the
 /// numbers of one replica's operations.
 pub(crate) fn turns_of<A: Allocator, B: Allocator + Clone>(
     alloc: &B,
@@ -146,7 +146,7 @@ pub(crate) fn turns_of<A: Allocator, B: Allocator + Clone>(
     Ok(merge_order)
 }
 
-/// Whether logs take turns often: more than once in eight operations.
+/// Whether the turns change between runs often: more than once in eight operations.
 pub(crate) fn is_often(merge_order: &[usize]) -> bool {
     let mut changes: usize = 0;
     let mut last = 0;

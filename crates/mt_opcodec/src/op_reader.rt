@@ -254,7 +254,7 @@ fn body_of<A: Allocator>(alloc: A, clock: u64, bytes: &[u8]) -> Result<(Body<A>,
     }
 }
 
-// Whether the kind byte at the front came with a later version of logs than this one.
+// Whether the kind byte at the front was introduced by a later version of logs than this one.
 fn is_newer(version: u8, bytes: &[u8]) -> bool
     ensures { result ≡ is_newer version bytes.now }
 {
@@ -264,7 +264,7 @@ fn is_newer(version: u8, bytes: &[u8]) -> bool
     }
 }
 
-// The body in a log of this version.
+// The body at the front of the bytes, in a log of this version.
 #[tactic(auto, unfolding(crate::specs::OpReading::act_in))]
 fn body_in<A: Allocator>(
     alloc: A,
@@ -310,20 +310,20 @@ pub(crate) fn op_of<A: Allocator>(
     }
 }
 
-/// Reads the operation that stands at the front of the bytes, and says how many bytes its text has;
-/// what follows is not looked at. Where the bytes do not begin with one, the first field at fault,
-/// from left to right, is refused: as `Truncated` (8) where the bytes end before it does, as
-/// `BadTag` (9) where it is the kind byte and none of 1 to 14, and as `BadField` (10) where it is
-/// another and not allowed. `Memory` (0) is answered where the growth of the title or of the tags
-/// was refused. Memory is taken tag by tag, never for the number of them that the bytes give.
+/// Reads the operation at the front of the bytes, and returns it with the length of its text in
+/// bytes; what follows is ignored. If the bytes do not begin with an operation, the error is that
+/// of the first faulty field, from left to right: `Truncated` (8) if the bytes end before the field
+/// does, `BadTag` (9) if the kind byte is not 1 to 14, and `BadField` (10) if another field is not
+/// allowed. `Memory` (0) comes if the title or the tags could not be allocated. Allocates tag by
+/// tag, never for the number of tags that the bytes give.
 pub fn read_op<A: Allocator>(alloc: A, bytes: &[u8]) -> Result<(Op<A>, usize), ReadFault>
-    // What is read stands at the front.
+    // What is read is at the front of the bytes.
     ensures found { IfOk result (λ x. IsOp x.0 × (x.1 ≡ length (op_text x.0))
         × (bytes.now ≡ op_text x.0 ++ drop x.1 bytes.now)) }
-    // What stands at the front is read, unless memory ran out.
+    // The operation at the front is read, unless an allocation fails.
     ensures only { (o : OpValue) (rest : List ℕ) → IsOp o → bytes.now ≡ op_text o ++ rest
         → Gives (λ x. x) result (Ok (o, length (op_text o))) }
-    // Which fault it is.
+    // Which error is returned.
     ensures exact { Gives (λ x. (x.0, drop x.1 bytes.now)) result (op_at newest_version bytes.now) }
 {
     match op_of(alloc, NEWEST_VERSION, bytes) {

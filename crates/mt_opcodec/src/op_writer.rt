@@ -29,7 +29,7 @@ fn put_flag<A: Allocator>(out: &mut Vec<u8, A>, flag: bool) -> Result<(), AllocE
     Ok(())
 }
 
-// The place that a track is put after.
+// Appends the place that a track is put after.
 fn put_place<A: Allocator>(out: &mut Vec<u8, A>, after: Option<Stamp>) -> Result<(), AllocError>
     ensures { OnOk result (out.new.items ≡ out.old.items ++ place_bytes after) }
 {
@@ -42,7 +42,7 @@ fn put_place<A: Allocator>(out: &mut Vec<u8, A>, after: Option<Stamp>) -> Result
     }
 }
 
-// A frame, or a number of them.
+// Appends a frame, or a number of frames.
 fn put_frame<A: Allocator>(out: &mut Vec<u8, A>, at: u32) -> Result<(), AllocError>
     ensures { OnOk result (out.new.items ≡ out.old.items ++ frame_bytes at) }
 {
@@ -66,7 +66,8 @@ fn put_digest<A: Allocator>(out: &mut Vec<u8, A>, digest: &Digest) -> Result<(),
     out.extend_from_slice(&digest.0)
 }
 
-// What a clip plays of its recording.
+// Appends the trim of a clip: the first frame of its recording that it plays, and the number of
+// frames.
 fn put_trim<A: Allocator>(out: &mut Vec<u8, A>, offset: u32, len: u32) -> Result<(), AllocError>
     ensures { OnOk result (out.new.items ≡ out.old.items ++ trim_bytes offset len) }
 {
@@ -74,7 +75,7 @@ fn put_trim<A: Allocator>(out: &mut Vec<u8, A>, offset: u32, len: u32) -> Result
     put_frame(out, len)
 }
 
-// Over how many frames a clip fades in and out.
+// Appends the lengths of a clip's fade-in and fade-out in frames.
 fn put_fades<A: Allocator>(
     out: &mut Vec<u8, A>,
     fade_in: u32,
@@ -128,7 +129,7 @@ fn put_move_track<A: Allocator>(
     put_place(out, after)
 }
 
-// A clip of this recording on this track, from frame `at` of the session on.
+// Appends a clip of this recording on this track, from frame `at` of the session on.
 fn put_add_clip<A: Allocator>(
     out: &mut Vec<u8, A>,
     source: &Digest,
@@ -319,8 +320,8 @@ fn put_body<A: Allocator, B: Allocator>(
     }
 }
 
-// Writes the operation's text after what `out` holds. Where memory is refused, a part of it may
-// have been written.
+// Appends the operation's text to `out`. If an allocation fails, a part of it may have been
+// written.
 pub(crate) fn put_op<A: Allocator, B: Allocator>(
     out: &mut Vec<u8, A>,
     op: &Op<B>,
@@ -331,8 +332,8 @@ pub(crate) fn put_op<A: Allocator, B: Allocator>(
     put_body(out, op.body())
 }
 
-/// Appends the operation's text to `out`. Refused only where an allocation failed, and `out` then
-/// holds what it held before.
+/// Appends the operation's text to `out`. The only error is a failed allocation; `out` is then
+/// unchanged.
 pub fn write_op<A: Allocator + Clone, B: Allocator>(
     op: &Op<B>,
     out: &mut Vec<u8, A>,

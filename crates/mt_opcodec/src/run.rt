@@ -33,8 +33,8 @@ impl<A: Allocator> Model for Run<A> {
     ghost invariant = { λ r. IsRun (record { replica = r.replica; ops = r.ops.items }) };
 }
 
-// The place of the operation with this dot, or the one at which it would go: at the end without a
-// search where all dots are smaller or it is the last.
+// The index of the operation with this dot, or the one at which it would be inserted. Needs no
+// search if all dots are smaller or it is the last.
 fn place_of<A: Allocator>(ops: &[Op<A>], dot: Dot) -> Result<usize, usize>
     requires { IsTrue (dots_rise ops.now) }
     ensures found { IfOk result (IsAt ops.now dot) }
@@ -50,7 +50,7 @@ fn place_of<A: Allocator>(ops: &[Op<A>], dot: Dot) -> Result<usize, usize>
     }
 }
 
-// Puts an operation at a place: most are the last, behind which nothing has to move.
+// Inserts an operation at an index. Most are appended, so that nothing has to move.
 fn put_at<A: Allocator>(ops: &mut Vec<Op<A>, A>, place: usize, op: Op<A>) -> Result<(), AllocError>
     requires { place ≤ length ops.old.items }
     ensures items { OnOk result (ops.new.items ≡ insert ops.old.items place op) }
@@ -71,14 +71,14 @@ impl<A: Allocator> Run<A> {
     ghost use Rattle.mt_opcodec.specs.Union.{MergeFails};
     ghost use Rattle.mt_opcodec.specs.Runs.{RunOf, IsRun, IsJoined};
 
-    /// Whose operations they are.
+    /// The replica of all its operations.
     pub fn replica(&self) -> Replica
         ensures { result ≡ self.now.replica }
     {
         self.replica
     }
 
-    /// The operations by rising number.
+    /// The operations, by rising number.
     pub fn ops(&self) -> &[Op<A>]
         ensures value { result.now ≡ self.now.ops }
         ensures is_run { IsRun self.now }
@@ -86,7 +86,7 @@ impl<A: Allocator> Run<A> {
         &self.ops
     }
 
-    // Its operations.
+    // The operations of the run, moved out of it.
     pub(crate) fn into_ops(self) -> Vec<Op<A>, A>
         ensures { result.items ≡ self.ops }
     {
@@ -94,7 +94,7 @@ impl<A: Allocator> Run<A> {
         ops
     }
 
-    // The run of one operation, in a block of its own size.
+    // The run of one operation, in an allocation of exactly its size.
     pub(crate) fn of(alloc: A, op: Op<A>) -> Result<Self, AllocError>
         ensures ok { IfOk result (λ run. run ≡ record { replica = op.stamp.replica; ops = op ∷ [] })
             }
@@ -116,7 +116,7 @@ impl<A: Allocator> Run<A> {
         }
     }
 
-    // Adds an operation of the same replica.
+    // Adds an operation of the run's replica.
     pub(crate) fn add(&mut self, op: Op<A>) -> Result<bool, LogFault>
         requires { op.stamp.replica ≡ self.old.replica }
         ensures answer { Adds op (log_of self.old.ops) result }
@@ -137,7 +137,7 @@ impl<A: Allocator> Run<A> {
         }
     }
 
-    // The operations of both, moved. They are of one replica.
+    // The union of two runs of one replica, whose operations are moved.
     pub(crate) fn join(self, other: Self) -> Result<Self, LogFault>
     where
         A: Clone,
@@ -156,7 +156,7 @@ impl<A: Allocator> Run<A> {
         }
     }
 
-    // An equal run, in blocks of its own size.
+    // An equal run, in allocations of exactly its size.
     pub(crate) fn copied(&self, alloc: &A) -> Result<Self, LogFault>
     where
         A: Clone,

@@ -1,4 +1,4 @@
-//! What a log does with its runs.
+//! The runs of a log as one list.
 
 ghost use Rattle.std.specs.Prelude.{◌≡◌, ◌≢◌, ◌↔◌, ◌++◌, ◌∷◌, [], Ok, true, IfOk, IfErr, IfSome};
 ghost use Rattle.std.specs.Prelude.{OnOk, IsTrue, slice_get, length, map as list_map};
@@ -15,7 +15,7 @@ use mt_op::Op;
 use mt_op::laws::equal_ops;
 use std::alloc::{AllocError, Allocator};
 
-// How many operations runs have, where a number counts them.
+// The number of operations of these runs, or `None` if that overflows.
 pub(crate) fn count_of<A: Allocator>(runs: &[Run<A>]) -> Option<usize>
     ensures { IfSome result (λ count. count ≡ length (run_ops runs.now)) }
 {
@@ -26,7 +26,7 @@ pub(crate) fn count_of<A: Allocator>(runs: &[Run<A>]) -> Option<usize>
     Some(count)
 }
 
-// The operation at a place of runs, one after another.
+// The operation at this index of the runs' operations, one run after another.
 pub(crate) fn op_of_runs<A: Allocator>(runs: &[Run<A>], i: usize) -> Option<&Op<A>>
     ensures { option_copied result ≡ slice_get (run_ops runs.now) i }
 {
@@ -41,7 +41,7 @@ pub(crate) fn op_of_runs<A: Allocator>(runs: &[Run<A>], i: usize) -> Option<&Op<
     None
 }
 
-// Puts references to operations at the end of others.
+// Appends references to operations.
 fn push_refs<'a, A: Allocator, B: Allocator>(
     refs: &mut Vec<&'a Op<A>, B>,
     ops: &'a [Op<A>],
@@ -55,7 +55,7 @@ fn push_refs<'a, A: Allocator, B: Allocator>(
     Ok(())
 }
 
-// References to the operations of runs, one after another.
+// References to the operations of these runs, one run after another.
 pub(crate) fn refs_of_runs<'a, A: Allocator, B: Allocator>(
     alloc: B,
     runs: &'a [Run<A>],
@@ -69,7 +69,7 @@ pub(crate) fn refs_of_runs<'a, A: Allocator, B: Allocator>(
     Ok(refs)
 }
 
-// Equal runs.
+// Copies of these runs.
 pub(crate) fn copied_runs<A: Allocator + Clone>(
     alloc: &A,
     runs: &[Run<A>],
@@ -107,7 +107,7 @@ pub(crate) fn add_to_runs<A: Allocator + Clone>(
     }
 }
 
-// Whether operations are the same.
+// Whether two lists have the same operations.
 fn equal_lists<A: Allocator>(left: &[Op<A>], right: &[Op<A>]) -> bool
     ensures { IsTrue result ↔ (left.now ≡ right.now) }
 {
@@ -122,14 +122,14 @@ fn equal_lists<A: Allocator>(left: &[Op<A>], right: &[Op<A>]) -> bool
     true
 }
 
-// Whether two runs are the same.
+// Whether two runs are equal.
 fn equal_run<A: Allocator>(left: &Run<A>, right: &Run<A>) -> bool
     ensures { IsTrue result ↔ (left.now ≡ right.now) }
 {
     left.replica() == right.replica() && equal_lists(left.ops(), right.ops())
 }
 
-// Whether runs are the same.
+// Whether two lists of runs are equal.
 pub(crate) fn equal_runs<A: Allocator>(left: &[Run<A>], right: &[Run<A>]) -> bool
     ensures { IsTrue result ↔ (left.now ≡ right.now) }
 {

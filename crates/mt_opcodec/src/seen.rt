@@ -1,4 +1,4 @@
-//! The first of many logs that contradicts those before it.
+//! The first of many logs that conflicts with those before it.
 
 ghost use Rattle.std.specs.Prelude.{◌≡◌, IfOk, OnOk, MatchOption};
 ghost use Rattle.std.specs.Option.{option_copied};
@@ -20,7 +20,7 @@ use mt_stamp::Dot;
 use std::alloc::{AllocError, Allocator};
 use std::collections::BTreeMap;
 
-// Whether another operation was seen under this one's dot.
+// Whether another operation was seen under the dot of this one.
 fn has_another<A: Allocator, B: Allocator>(seen: &BTreeMap<Dot, &Op<A>, B>, op: &Op<A>) -> bool
     ensures { (log : LogMap) → AreSeen (λ dot. option_copied (get dot_cmp seen.now dot)) log
         → HasAnother log op.now result }
@@ -44,7 +44,7 @@ fn first_of_ops<A: Allocator, B: Allocator>(
     None
 }
 
-// The same, of the operations of all these runs.
+// The dot of the first operation of these runs under whose dot another one was seen.
 fn first_other<A: Allocator, B: Allocator>(
     seen: &BTreeMap<Dot, &Op<A>, B>,
     runs: &[Run<A>],
@@ -60,7 +60,7 @@ fn first_other<A: Allocator, B: Allocator>(
     None
 }
 
-// Notes operations under their dots.
+// Adds operations to those seen, under their dots.
 fn note_ops<'a, A: Allocator, B: Allocator + Clone>(
     seen: &mut BTreeMap<Dot, &'a Op<A>, B>,
     ops: &'a [Op<A>],
@@ -74,7 +74,7 @@ fn note_ops<'a, A: Allocator, B: Allocator + Clone>(
     Ok(())
 }
 
-// Notes the operations of runs under their dots.
+// Adds the operations of runs to those seen, under their dots.
 fn note_runs<'a, A: Allocator, B: Allocator + Clone>(
     seen: &mut BTreeMap<Dot, &'a Op<A>, B>,
     runs: &'a [Run<A>],
@@ -88,9 +88,9 @@ fn note_runs<'a, A: Allocator, B: Allocator + Clone>(
     Ok(())
 }
 
-// The first dot at which one of the logs clashes with those before it, or none where all agree,
-// which is seen first, by a walk in these turns. Only where they do not, it takes a map of
-// references to all operations, to see which clash is the first: n log n for n of them.
+// The first dot at which one of the logs conflicts with those before it, or `None` if all agree. A
+// walk in these turns checks first whether they agree. Only if they do not, a map of references to
+// all operations is built to find the first conflict: n log n for n operations.
 pub(crate) fn first_conflict<A: Allocator, B: Allocator + Clone>(
     alloc: B,
     logs: &[Log<A>],

@@ -16,7 +16,7 @@ pub(crate) fn is_version(byte: u8) -> bool
     1 <= byte && byte <= NEWEST_VERSION
 }
 
-// The version that a kind byte came with.
+// The version that introduced a kind byte.
 pub(crate) fn version_of_kind(kind: u8) -> u8
     ensures { result ≡ version_of_kind kind }
 {
@@ -27,7 +27,7 @@ pub(crate) fn version_of_kind(kind: u8) -> u8
     }
 }
 
-// The version that an operation with this body asks for.
+// The version that an operation with this body needs.
 pub(crate) fn version_of_body<A: Allocator>(body: &Body<A>) -> u8
     ensures { result ≡ version_of_act (act_of body.now) }
 {

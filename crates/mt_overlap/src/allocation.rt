@@ -1,4 +1,4 @@
-//! The list of segments, as it grows.
+//! Appending to the list of segments.
 
 ghost use Rattle.std.specs.Prelude.{◌≡◌, ℕ, ◌<◌, ◌≤◌, ◌⊎◌, ◌↔◌, OnOk, IsTrue};
 ghost use Rattle.mt_overlap.specs.Overlap.{SegmentIs, AreSortedDisjoint};
@@ -17,7 +17,8 @@ fn is_last(segments: &[Segment], start: u64, which: usize) -> bool
     }
 }
 
-// Adds the frames from `start` to `end`, to the last segment where they go on with it.
+// Adds the frames from `start` to `end`: to the last segment if they continue it, otherwise as a
+// new one.
 pub(crate) fn emit<A: Allocator>(
     segments: &mut Vec<Segment, A>,
     start: u64,

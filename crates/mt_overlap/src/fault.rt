@@ -1,4 +1,4 @@
-//! Why segments could not be worked out.
+//! Why segments cannot be computed.
 
 ghost use Rattle.std.specs.Prelude.{◌≡◌};
 ghost use Rattle.mt_overlap.specs.declared.fault.OverlapFault.TheVariants.{Memory};
@@ -6,7 +6,7 @@ ghost use Rattle.mt_overlap.specs.declared.fault.OverlapFault.TheVariants.{Memor
 use std::alloc::{AllocError, AllocFailed};
 use thiserror::Error;
 
-/// Why segments could not be worked out.
+/// Why segments cannot be computed.
 #[derive(Clone, Copy, Debug, PartialEq, Eq, Error)]
 pub enum OverlapFault {
     #[error("out of memory")]
@@ -14,7 +14,7 @@ pub enum OverlapFault {
 }
 
 impl OverlapFault {
-    /// The refusal's number: 0.
+    /// The fault's number: 0.
     pub fn number(&self) -> u8
         ensures { result ≡ 0 }
     {

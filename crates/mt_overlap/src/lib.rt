@@ -1,8 +1,8 @@
-//! Spans that lie over one another, and the segments in which one of them is on top.
+//! Overlapping spans, and the segments in which one of them is on top.
 //!
-//! Clips on a track may overlap. At each frame the one that was placed last is heard, and only that
-//! one: of the spans that cover the frame, the one with the greatest place stamp. Where the one on
-//! top changes, a new segment begins.
+//! Clips on a track may overlap. At each frame only the one that was placed last is heard: of the
+//! spans that cover the frame, the one with the greatest place stamp. A new segment begins where
+//! the span on top changes.
 //!
 //! ```text
 //! frames          0   4   7   10
@@ -30,11 +30,11 @@
 //! }
 //! ```
 //!
-//! Had the first been placed by a greater stamp than the second, there would be one segment,
-//! `0..10`, of the first. Frames that no span covers lie in no segment, and two segments that touch
-//! are of different spans.
+//! If the first span had been placed by a greater stamp than the second, there would be one
+//! segment, `0..10`, of the first. Frames that no span covers are in no segment, and two adjacent
+//! segments are of different spans.
 //!
-//! n spans cost n log n, however deep they lie: the spans are walked once, by their starts, with a
+//! n spans cost n log n, however many overlap: the spans are walked once, by their starts, with a
 //! map of those that sound or may sound again.
 #![tactic(auto)]
 

@@ -15,17 +15,17 @@ use mt_stamp::Stamp;
 use std::alloc::{AllocError, Allocator};
 use std::collections::BTreeMap;
 
-// Where no frame is covered any more: every span ends below.
+// A frame that is after every span: every span ends before it.
 const BEHIND_ALL: u64 = 1 << 33;
 
-// A span that has begun: the first frame behind it, and its index.
+// A span that has begun: the first frame after it, and its index.
 #[derive(Clone, Copy)]
 struct Cover {
     end: u64,
     which: usize,
 }
 
-// The one of greatest place.
+// The active span with the greatest place stamp.
 #[derive(Clone, Copy)]
 struct Top {
     place: Stamp,
@@ -47,7 +47,7 @@ fn top_of<A: Allocator>(active: &BTreeMap<Stamp, Cover, A>) -> Option<Top>
     }
 }
 
-// Settles the frames up to `limit`, for the spans that have begun: the first `begun` of `order`.
+// Emits the segments up to `limit`, for the spans that have begun: the first `begun` of `order`.
 fn settle<A: Allocator>(
     spans: &[Span],
     order: &[(u32, usize)],
@@ -79,7 +79,7 @@ fn settle<A: Allocator>(
     Ok(())
 }
 
-// The span of an index.
+// The span at an index.
 pub(crate) fn span_at(spans: &[Span], which: usize) -> Span
     requires { which < length spans.now }
     ensures { result ≡ span_at spans.now which }
@@ -87,7 +87,7 @@ pub(crate) fn span_at(spans: &[Span], which: usize) -> Span
     spans[which]
 }
 
-// The first frame behind a span.
+// The first frame after a span.
 fn end_of(span: &Span) -> u64
     ensures value { result ≡ end_of span.now }
     ensures end_fits { result < 2 ^ 33 }
@@ -96,7 +96,7 @@ fn end_of(span: &Span) -> u64
     u64::from(span.start) + u64::from(span.len)
 }
 
-// The starts and indexes of spans, by start.
+// The starts and indexes of spans, sorted by start.
 fn by_start<A: Allocator>(alloc: A, spans: &[Span]) -> Result<Vec<(u32, usize), A>, AllocError>
     ensures ok { IfOk result (λ order. IsOrder spans.now order.items) }
 {
@@ -108,7 +108,7 @@ fn by_start<A: Allocator>(alloc: A, spans: &[Span]) -> Result<Vec<(u32, usize), 
     Ok(order)
 }
 
-// The segments of spans that are given in the order of their starts.
+// The segments of spans, given the order of their starts.
 fn sweep<A: Allocator + Clone>(
     alloc: &A,
     spans: &[Span],
@@ -142,10 +142,10 @@ fn sweep<A: Allocator + Clone>(
     Ok(segments)
 }
 
-/// The segments of spans: they rise, none is empty, no two overlap, and two that touch are of
-/// different spans. A frame lies in a segment exactly where a span covers it, and the segment names
-/// the span of greatest place stamp of those that do. The condition is that no two spans have one
-/// place stamp, as the clips of a track in a session have not. Refused only as `Memory` (0).
+/// The segments of spans: they rise, none is empty, no two overlap, and two adjacent ones are of
+/// different spans. A frame is in a segment if and only if a span covers it, and `which` is the
+/// index of the span with the greatest place stamp of those that do. No two spans may have the same
+/// place stamp, as is true of the clips of a track in a session. The only error is `Memory` (0).
 pub fn segments<A: Allocator + Clone>(
     alloc: A,
     spans: &[Span],

@@ -1,7 +1,7 @@
--- The format of what is rendered (profile).
+-- The format of rendered output (profile).
 use Rattle.std.specs.Prelude.{ℕ, Bool, ◌&&◌, ◌||◌, nat_le, ◌==◌}
 
--- frames a second, bits of a sample, and channels
+-- the rate in frames a second, the bits of a sample, and the number of channels
 pub record Format : Type 0 where
   pub rate : ℕ
   pub bits : ℕ

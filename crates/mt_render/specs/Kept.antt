@@ -1,4 +1,5 @@
--- What a `Mix` keeps beside the programme: its lanes give the mix, and its length is there.
+-- The fields of a `Mix` besides the programme: its lanes contribute the mix, and its length is
+-- stored.
 use Rattle.std.specs.Prelude.{◌≡◌, ℕ, ◌<◌, ◌^◌, true}
 use Rattle.mt_render.specs.declared.mix.Mix.TheInside.{Inside}
 use Rattle.mt_render.specs.Mix.{mixed, length_of}

@@ -1,4 +1,4 @@
--- How the least is found: no definition of the subject.
+-- The search for the least digest; not definitions of the subject.
 use Rattle.std.specs.Prelude.{Bool, if◌then◌else◌, Option, Some, None}
 use Rattle.std.specs.Ordering.{is_lt}
 use Rattle.mt_op.specs.declared.digest.Digest.{Digest}

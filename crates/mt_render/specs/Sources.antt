@@ -1,4 +1,4 @@
--- The recordings that are at hand.
+-- The available recordings.
 use Rattle.std.specs.Prelude.{◌≡◌, ℕ, List, [], ◌++◌, map, take, slice_get, Option, Some, unwrap_or}
 use Rattle.std.specs.List.{AllByRecursion}
 use Rattle.std.specs.Ordering.{nat_cmp, is_eq}
@@ -12,15 +12,15 @@ use Rattle.mt_bwfread.specs.declared.fault.WaveFault.{WaveFault}
 use Rattle.mt_render.specs.declared.fault.SourceFault.{SourceFault}
 use Rattle.mt_render.specs.declared.fault.SourceFault.TheVariants.{Memory, Wave}
 
--- a map from digests to the bytes of wave files: its entries
+-- a map from digests to the bytes of wave files, as a list of entries
 abbrev pub Sources : Type 0
 Sources = List (Digest × List ℕ)
 
--- digests by their bytes, as numbers from the first on
+-- the order of digests: by their bytes, as numbers from the first on
 abbrev pub digest_cmp : Digest → Digest → Ordering
 digest_cmp a b = slice_cmp nat_cmp a.0 b.0
 
--- what is under a digest
+-- the bytes under a digest, if any
 abbrev pub found : Sources → Digest → Option (List ℕ)
 found sources d = lookup (λ e. is_eq (digest_cmp d e)) sources
 
@@ -35,22 +35,22 @@ under_digest file = (record { 0 = sha256 file }, file)
 abbrev pub sources_of : List (List ℕ) → Sources
 sources_of files = map under_digest files
 
--- what is there once files have been put behind it, one after another
+-- `new` has what `old` has after these files were added, one after another
 abbrev pub HasAdded : Sources → List (List ℕ) → Sources → Type 0
 HasAdded old files new = (d : Digest) → found new d ≡ found (old ++ sources_of files) d
 
--- of several files, the first that is no wave file, and the first of its faults
+-- the first of several files that is not a wave file, and its first fault
 abbrev pub IsFirstFault : List (List ℕ) → ℕ → WaveFault → Type 0
 IsFirstFault files index fault = (bytes : List ℕ) × (AllByRecursion IsWave (take index files)
     × (slice_get files index ≡ Some bytes) × (fault_of bytes ≡ Some fault))
 
--- what refuses one of several files: memory, or the first that is no wave file
+-- why several files cannot be added: out of memory, or the first that is not a wave file
 abbrev pub IsFileFault : List (List ℕ) → SourceFault → Type 0
 IsFileFault files Memory = Unit {0}
 IsFileFault files (Wave fault) = (index : ℕ) × IsFirstFault files index fault
 
--- what is there once putting several files was refused: those before the first that is no wave
--- file, or as many, from the first on, as there was memory for
+-- the recordings after adding several files failed: those before the first that is not a wave file,
+-- or the first ones for which there was memory
 abbrev pub AreLeft : Sources → List (List ℕ) → Sources → SourceFault → Type 0
 AreLeft old files new Memory = (count : ℕ) × HasAdded old (take count files) new
 AreLeft old files new (Wave fault) = (index : ℕ) × (IsFirstFault files index fault

@@ -1,4 +1,4 @@
-//! Blocks of samples: the two ways.
+//! Blocks of samples, computed in 128 bits (wide) or in 64 bits (narrow).
 
 ghost use Rattle.std.specs.Prelude.{◌≡◌, ◌≢◌, ℕ, ◌+◌, ◌*◌, ◌/◌, ◌%◌, ◌<◌, ◌≤◌, ◌^◌, length, ℤ};
 ghost use Rattle.std.specs.Int.{w64, int_wrap};
@@ -12,10 +12,10 @@ use crate::lane::Lane;
 use crate::sum::{add_lanes, put_out, put_out_narrow, sum_of};
 use std::alloc::Allocator;
 
-// The frames that are worked out at once.
+// The number of frames that are computed at once.
 const FRAMES: usize = 1024;
 
-/// The wide way: each sample by itself, summed in 128 bits.
+/// Fills a block the wide way: each sample separately, summed in 128 bits.
 pub(crate) fn fill_wide<A: Allocator>(
     lanes: &[Lane<'_, '_, A>],
     format: Format,
@@ -35,7 +35,7 @@ pub(crate) fn fill_wide<A: Allocator>(
     }
 }
 
-// Puts the samples of a channel between those of the others.
+// Writes the samples of one channel, interleaved with those of the others.
 fn put_channel(samples: &mut [i32], sums: &[i64], channels: usize, channel: usize, bits: u16)
     requires room { length samples.old ≡ length sums.now * channels }
     requires in_channels { channel < channels }
@@ -49,8 +49,8 @@ fn put_channel(samples: &mut [i32], sums: &[i64], channels: usize, channel: usiz
     }
 }
 
-// The samples of at most 1,024 frames, channel after channel: what is read and what is summed stays
-// in the nearest cache.
+// Computes the samples of at most 1,024 frames, channel after channel, so that the samples read and
+// the sums stay in the first-level cache.
 fn fill_frames<A: Allocator>(
     lanes: &[Lane<'_, '_, A>],
     format: Format,
@@ -83,7 +83,7 @@ fn fill_frames<A: Allocator>(
     }
 }
 
-/// The narrow way: segment by segment, summed in 64 bits.
+/// Fills a block the narrow way: segment by segment, summed in 64 bits.
 pub(crate) fn fill_narrow<A: Allocator>(
     lanes: &[Lane<'_, '_, A>],
     format: Format,

@@ -1,4 +1,4 @@
-//! The recordings that are at hand.
+//! The available recordings.
 
 ghost use Rattle.std.specs.Prelude.{◌≡◌, ◌≢◌, ℕ, ◌∷◌, [], Some, None, IfOk, OnOk, OnErr, IfErr};
 ghost use Rattle.std.specs.Prelude.{map, unwrap_or};
@@ -17,8 +17,8 @@ use std::alloc::{AllocError, Allocator, Global};
 use std::collections::BTreeMap;
 use std::marker::Model;
 
-/// Wave files by the digests of their bytes. Contracts see a map from digests to bytes. The files
-/// are not copied.
+/// Wave files by the digests of their bytes. Its value in contracts is a map from digests to bytes.
+/// The files are not copied.
 #[derive(Drop)]
 pub struct Catalogue<'a, A: Allocator = Global> {
     waves: BTreeMap<Digest, Wave<'a>, A>,
@@ -36,7 +36,7 @@ impl<'a, A: Allocator> Catalogue<'a, A> {
     ghost use Rattle.std.specs.Option.{option_copied};
     ghost use Rattle.mt_render.specs.Sources.{found, AreLeft, HasAdded, IsFileFault};
 
-    /// No recording. Takes no memory.
+    /// The empty catalogue. Allocates nothing.
     pub fn new(alloc: A) -> Catalogue<'a, A>
         ensures { (d : DigestOf) → found result d ≡ None }
     {
@@ -45,9 +45,9 @@ impl<'a, A: Allocator> Catalogue<'a, A> {
         }
     }
 
-    /// Puts a wave file under its digest, and answers that. A digest that is there is answered
-    /// again, and keeps the bytes that it has. Refused, in this order: what `Wave::read` refuses
-    /// (26 to 32), and `Memory` (0); nothing is changed then.
+    /// Adds a wave file under its digest, and returns the digest. A digest that is already there is
+    /// returned as well, and keeps the bytes that it has. Fails, in this order, with the faults of
+    /// `Wave::read` (26 to 32), and with `Memory` (0); nothing is changed then.
     pub fn add(&mut self, bytes: &'a [u8]) -> Result<Digest, SourceFault>
     where
         A: Clone,
@@ -69,7 +69,7 @@ impl<'a, A: Allocator> Catalogue<'a, A> {
         Ok(digest)
     }
 
-    // Puts a wave file under a digest, unless one is there.
+    // Adds a wave file under a digest, unless there is one already.
     fn keep(&mut self, digest: Digest, wave: Wave<'a>) -> Result<(), AllocError>
     where
         A: Clone,
@@ -85,7 +85,7 @@ impl<'a, A: Allocator> Catalogue<'a, A> {
         Ok(())
     }
 
-    // Puts a wave file under its digest, which is at hand.
+    // Adds a wave file under its digest, which is already computed.
     fn add_under(&mut self, digest: Digest, bytes: &'a [u8]) -> Result<(), SourceFault>
     where
         A: Clone,
@@ -106,8 +106,8 @@ impl<'a, A: Allocator> Catalogue<'a, A> {
         }
     }
 
-    /// Puts a wave file under its digest, which is at hand, as `add` does. Refused as `add` is;
-    /// nothing is changed then.
+    /// Adds a wave file under its digest, which is already computed, as `add` does. Fails as `add`
+    /// does; nothing is changed then.
     pub fn add_hashed<B: Allocator>(&mut self, file: &'a HashedFile<B>) -> Result<(), SourceFault>
     where
         A: Clone,
@@ -122,13 +122,13 @@ impl<'a, A: Allocator> Catalogue<'a, A> {
         }
     }
 
-    /// Puts wave files under their digests, from left to right, as `add` does with one after
-    /// another: of several of one digest the first is kept. The digests are worked out together,
-    /// four in about twice the time of one.
+    /// Adds wave files under their digests, from left to right, each as `add` does: of several with
+    /// one digest the first is kept. The digests are computed together, four in about twice the
+    /// time of one.
     ///
-    /// Refused as the first file that `Wave::read` refuses (26 to 32): those before it are kept
-    /// then, and no other; and as `Memory` (0): then as many are kept, from the first on, as there
-    /// was memory for.
+    /// Fails with the fault of the first file that is not a wave file (26 to 32): then those before
+    /// it are kept, and no other; and with `Memory` (0): then those are kept, from the first on,
+    /// for which there was memory.
     pub fn add_all(&mut self, alloc: A, files: &[&'a [u8]]) -> Result<(), SourceFault>
     where
         A: Clone,
@@ -149,7 +149,7 @@ impl<'a, A: Allocator> Catalogue<'a, A> {
         Ok(())
     }
 
-    /// The wave file under a digest. Takes no memory.
+    /// The wave file under a digest. Allocates nothing.
     pub fn find(&self, digest: &Digest) -> Option<&Wave<'a>>
         ensures { option_copied result ≡ found self.now digest.now }
     {

@@ -1,4 +1,4 @@
-//! Divisions by products.
+//! Division by multiplication with an inverse.
 
 ghost use Rattle.std.specs.Prelude.{◌≡◌, ℕ, ◌*◌, ◌/◌, ◌<◌, ◌≤◌, ◌^◌};
 ghost use Rattle.mt_render.specs.Divides.{IsNear, IsNearer};
@@ -11,8 +11,8 @@ pub(crate) fn upper(a: u64, b: u64) -> u64
     ((u128::from(a) * u128::from(b)) >> 64) as u64
 }
 
-/// A divisor, and what stands for a division by it: its inverse with 64 bits, and, for numbers that
-/// these are too few for, the lower 64 of the 65 bits of its inverse with one bit more.
+/// A divisor with the inverses that replace a division by it: one of 64 bits, and, for numbers that
+/// are too large for that, the lower 64 bits of one of 65 bits.
 #[derive(Clone, Copy)]
 pub(crate) struct Divisor {
     pub(crate) den: u64,
@@ -26,8 +26,7 @@ pub(crate) struct Divisor {
     ghost nearer: { IsNearer den lower shift },
 }
 
-// How often two goes into what is a little less: two to the power of this is below the divisor, and
-// twice that is not.
+// The greatest exponent whose power of two is below the divisor; twice that power is not below it.
 fn shift_of(den: u64) -> u32
     requires from { 2 ≤ den }
     requires to { den ≤ 2 ^ 53 }
@@ -42,7 +41,7 @@ fn shift_of(den: u64) -> u32
     shift
 }
 
-// The lower 64 bits of an inverse of 65, which is rounded up.
+// The lower 64 bits of an inverse of 65 bits, which is rounded up.
 fn lower_of(den: u64, shift: u32) -> u64
     requires from { 2 ≤ den }
     requires to { den ≤ 2 ^ 53 }
@@ -56,7 +55,7 @@ fn lower_of(den: u64, shift: u32) -> u64
 }
 
 impl Divisor {
-    /// The divisor of this size.
+    /// This divisor.
     pub(crate) fn new(den: u64) -> Divisor
         requires from { 2 ≤ den }
         requires to { den ≤ 2 ^ 53 }
@@ -91,7 +90,7 @@ impl Divisor {
     }
 }
 
-/// A way of taking quotients, of numbers below some.
+/// A way of computing quotients of numbers below a bound.
 pub(crate) trait Quotients {
     ghost below: { ℕ };
 
@@ -100,7 +99,7 @@ pub(crate) trait Quotients {
         ensures { result ≡ number / divisor.now.den };
 }
 
-/// Of numbers of 63 bits.
+/// Quotients of numbers below 2^63.
 pub(crate) struct Short;
 
 impl Quotients for Short {
@@ -112,7 +111,7 @@ impl Quotients for Short {
     }
 }
 
-/// Of any.
+/// Quotients of any numbers.
 pub(crate) struct Long;
 
 impl Quotients for Long {

@@ -1,4 +1,4 @@
-//! The fades of a clip: how much of each of its frames they leave.
+//! The fades of a clip: the level of each of its frames.
 
 ghost use Rattle.std.specs.Prelude.{◌≡◌, ◌+◌, ◌-◌, ◌*◌, ◌/◌, ◌<◌, ◌≤◌, ◌^◌, length, true, min, max};
 ghost use Rattle.std.specs.Prelude.{IfSome, pos, ◌+ℤ◌, ◌*ℤ◌};
@@ -10,7 +10,7 @@ use crate::divisor::{Divisor, Long, Quotients, Short};
 use crate::ramp::Ramp;
 use crate::scale::Scale;
 
-/// How long a clip is, and over how many frames it fades in and out, each 0 for no fade.
+/// The length of a clip and of its fade-in and fade-out in frames; 0 is no fade.
 #[derive(Clone, Copy)]
 pub(crate) struct Fades {
     pub(crate) len: u32,
@@ -20,7 +20,7 @@ pub(crate) struct Fades {
     ghost out_to: { fade_out ≤ 2 ^ 20 },
 }
 
-// What a fade of so many frames leaves of a frame, so many frames from its silent end.
+// The level of a frame in a fade of this length; `frame` counts from the silent end.
 #[inline]
 fn level(fade: u32, frame: u32) -> u32
     ensures { result ≡ level fade frame }
@@ -28,7 +28,7 @@ fn level(fade: u32, frame: u32) -> u32
     if fade == 0 { 1 } else { frame.min(fade) }
 }
 
-// What it leaves in the end.
+// The level after a fade of this length.
 #[inline]
 fn full(fade: u32) -> u32
     ensures { result ≡ full fade }
@@ -45,7 +45,7 @@ fn product(gain: u32, level: u64) -> u128
     u128::from(gain) * u128::from(level)
 }
 
-// A product that is at most `most`.
+// A product that is known to be at most `most`.
 #[inline]
 fn small_product(gain: u32, level: u64, most: u32) -> u32
     requires { gain * level ≤ most }
@@ -54,7 +54,7 @@ fn small_product(gain: u32, level: u64, most: u32) -> u32
     (u64::from(gain) * level) as u32
 }
 
-// A sample's product and half a divisor, which 128 bits hold.
+// A sample's product plus half a divisor, which fits 128 bits.
 fn lifted(x: i32, num: u128, half: u128) -> i128
     requires num_to { num ≤ 2 ^ 72 }
     requires half_to { half ≤ 2 ^ 72 }
@@ -63,7 +63,7 @@ fn lifted(x: i32, num: u128, half: u128) -> i128
     i128::from(x) * num as i128 + half as i128
 }
 
-// What a sample gives under a gain and a level of the fades.
+// The contribution of a sample under a gain and a level of the fades.
 fn divided(x: i32, scale: &Scale, level: u64, full: u64) -> i64
     requires level_to { level ≤ full }
     requires full_from { 1 ≤ full }
@@ -85,7 +85,7 @@ impl Fades {
         self.fade_in == 0 && self.fade_out == 0
     }
 
-    // What both leave of a frame of the clip.
+    // The level of a frame of the clip under both fades.
     #[inline]
     fn level(&self, index: u32) -> u64
         requires { index ≤ self.now.len }
@@ -95,7 +95,7 @@ impl Fades {
         u64::from(level(self.fade_in, index)) * u64::from(level(self.fade_out, self.len - index))
     }
 
-    // What both leave at most.
+    // The greatest level under both fades.
     fn full(&self) -> u64
         ensures value { result ≡ most self.now }
         ensures from { 1 ≤ result }
@@ -104,21 +104,21 @@ impl Fades {
         u64::from(full(self.fade_in)) * u64::from(full(self.fade_out))
     }
 
-    /// The frame of the clip at which its fade in has ended.
+    /// The frame of the clip at which its fade-in has ended.
     pub(crate) fn rise(&self) -> u32
         ensures { result ≡ rise self.now }
     {
         self.fade_in.min(self.len)
     }
 
-    /// The frame of the clip at which its fade out begins.
+    /// The frame of the clip at which its fade-out begins.
     pub(crate) fn fall(&self) -> u32
         ensures { result ≡ fall self.now }
     {
         self.len - self.fade_out.min(self.len)
     }
 
-    /// What is as loud while the fade in goes on alone.
+    /// Fades with the same levels in the frames where only the fade-in is active.
     pub(crate) fn rising(&self) -> Fades
         ensures len { result.len ≡ self.now.len }
         ensures alike { AreAlike result self.now 0 (min (rise self.now) (fall self.now)) }
@@ -130,7 +130,7 @@ impl Fades {
         }
     }
 
-    /// What is as loud between the ends of the two, where neither goes on, or both do.
+    /// Fades with the same levels between the two ends, where neither fade is active, or both are.
     pub(crate) fn between(&self) -> Fades
         ensures len { result.len ≡ self.now.len }
         ensures alike { AreAlike result self.now (min (rise self.now) (fall self.now))
@@ -146,7 +146,7 @@ impl Fades {
         }
     }
 
-    /// What is as loud while the fade out goes on alone.
+    /// Fades with the same levels in the frames where only the fade-out is active.
     pub(crate) fn falling(&self) -> Fades
         ensures len { result.len ≡ self.now.len }
         ensures alike { AreAlike result self.now (max (rise self.now) (fall self.now)) self.now.len
@@ -159,7 +159,7 @@ impl Fades {
         }
     }
 
-    /// What a sample of a frame of the clip gives under a gain and both fades.
+    /// The contribution of a sample at a frame of the clip, under a gain and both fades.
     pub(crate) fn of(&self, x: i32, scale: &Scale, index: u32) -> i64
         requires { index ≤ self.now.len }
         ensures { result ≡ rounded (x *ℤ pos (scale.now.num * loudness self.now index))
@@ -172,7 +172,7 @@ impl Fades {
         }
     }
 
-    // Adds what each sample gives, from a frame of the clip on.
+    // Adds the contribution of each sample, from a frame of the clip on, by division.
     fn add_divided(&self, sums: &mut [i64], samples: &[i32], scale: &Scale, index: u32)
         requires long { length sums.old ≤ length samples.now }
         requires within { index + length sums.old ≤ self.now.len }
@@ -187,7 +187,8 @@ impl Fades {
         }
     }
 
-    // The same by products: none where the numbers are too great for it, or nothing is divided.
+    // The ramp that computes the contributions by products; `None` if the numbers are too great for
+    // it, or if there is nothing to divide by.
     fn ramp(&self, scale: &Scale) -> Option<Ramp>
         ensures { IfSome result (λ r. (r.divisor.den ≡ scale.now.den * most self.now)
             × (r.most ≡ scale.now.num * most self.now)) }
@@ -201,7 +202,7 @@ impl Fades {
         Some(Ramp::new(Divisor::new(den as u64), num as u32))
     }
 
-    // Adds what each sample gives, by products.
+    // Adds the contribution of each sample, from a frame of the clip on, by products.
     fn add_ramp(&self, sums: &mut [i64], samples: &[i32], ramp: &Ramp, num: u32, index: u32)
         requires long { length sums.old ≤ length samples.now }
         requires within { index + length sums.old ≤ self.now.len }
@@ -216,7 +217,7 @@ impl Fades {
         }
     }
 
-    // The same, by quotients of one kind.
+    // Adds the contribution of each sample by products, with one kind of quotients.
     fn add_each<Q: Quotients>(
         &self,
         sums: &mut [i64],
@@ -240,7 +241,8 @@ impl Fades {
         }
     }
 
-    /// Adds what each sample gives to the sum at its place, from a frame of the clip on.
+    /// Adds the contribution of each sample to the sum at the same index, from a frame of the clip
+    /// on.
     pub(crate) fn add(&self, sums: &mut [i64], samples: &[i32], scale: &Scale, index: u32)
         requires long { length sums.old ≤ length samples.now }
         requires within { index + length sums.old ≤ self.now.len }

@@ -1,4 +1,4 @@
-//! Why a recording was not taken, a format not made, and a programme not mixed.
+//! Why a recording cannot be added, a format made, or a programme mixed.
 
 ghost use Rattle.std.specs.Prelude.{◌≡◌};
 ghost use Rattle.mt_bwfread.specs.Fault.{number_of};
@@ -10,18 +10,18 @@ use mt_op::Digest;
 use std::alloc::{AllocError, AllocFailed};
 use thiserror::Error;
 
-/// Why a recording was not taken.
+/// Why a recording cannot be added.
 #[derive(Clone, Copy, Debug, PartialEq, Eq, Error)]
 pub enum SourceFault {
     #[error("out of memory")]
     Memory,
-    /// Its bytes are no wave file.
+    /// Its bytes are not a wave file.
     #[error("{0}")]
     Wave(WaveFault),
 }
 
 impl SourceFault {
-    /// The refusal's number: 0, or that of the file's fault, 26 to 32.
+    /// The fault's number: 0, or that of the wave file's fault, 26 to 32.
     pub fn number(&self) -> u8
         ensures { result ≡ source_number self.now }
     {
@@ -42,7 +42,7 @@ impl From<AllocError> for SourceFault {
     }
 }
 
-/// Why there is no such format to be written.
+/// Why a format cannot be written.
 #[derive(Clone, Copy, Debug, PartialEq, Eq, Error)]
 pub enum FormatFault {
     #[error("the format cannot be written")]
@@ -50,7 +50,7 @@ pub enum FormatFault {
 }
 
 impl FormatFault {
-    /// The refusal's number: 47.
+    /// The fault's number: 47.
     pub fn number(&self) -> u8
         ensures { result ≡ 47 }
     {
@@ -60,12 +60,12 @@ impl FormatFault {
     }
 }
 
-/// Why a programme is not mixed.
+/// Why a programme cannot be mixed.
 #[derive(Clone, Copy, Debug, PartialEq, Eq, Error)]
 pub enum MixFault {
     #[error("out of memory")]
     Memory,
-    /// The least digest of an audible clip that no recording has.
+    /// The least digest of an audible clip that is not in the catalogue.
     #[error("a recording is missing")]
     MissingSource(Digest),
     /// The least digest of an audible clip whose recording is of another rate.
@@ -77,7 +77,7 @@ pub enum MixFault {
 }
 
 impl MixFault {
-    /// The refusal's number: 0, 33, 34 or 35.
+    /// The fault's number: 0, 33, 34 or 35.
     pub fn number(&self) -> u8
         ensures { result ≡ mix_number self.now }
     {

@@ -1,4 +1,4 @@
-//! The format of what is rendered.
+//! The format of rendered output.
 
 ghost use Rattle.std.specs.Prelude.{◌≡◌, ◌↔◌, false, IsTrue, IfOk, IsErrOf};
 ghost use Rattle.mt_render.specs.FormatValue.{is_layout};
@@ -6,8 +6,7 @@ ghost use Rattle.mt_render.specs.FormatValue.{is_layout};
 use crate::fault::FormatFault;
 use std::marker::Model;
 
-/// The format of what is rendered: 1 to 384,000 frames a second, 16 or 24 bits, one or two
-/// channels.
+/// The format of rendered output: 1 to 384,000 frames a second, 16 or 24 bits, one or two channels.
 #[derive(Clone, Copy, Debug, PartialEq, Eq)]
 pub struct Format {
     rate: u32,
@@ -30,8 +29,8 @@ impl Model for Format {
 }
 
 impl Format {
-    /// A format of its parts. Refused as `BadFormat` (47) where the rate is not 1 to 384,000, the
-    /// bits are not 16 or 24, or the channels not 1 or 2. Takes no memory.
+    /// A format of these values. Fails with `BadFormat` (47) if the rate is not 1 to 384,000, the
+    /// bits are not 16 or 24, or the channels not 1 or 2. Allocates nothing.
     pub fn new(rate: u32, bits: u16, channels: u16) -> Result<Format, FormatFault>
         ensures ok { IfOk result (λ f. f ≡ record { rate = rate; bits = bits; channels = channels })
             }
@@ -52,7 +51,7 @@ impl Format {
         }
     }
 
-    /// The frames a second, 1 to 384,000.
+    /// The rate in frames a second, 1 to 384,000.
     pub fn rate(&self) -> u32
         ensures value { result ≡ self.now.rate }
         ensures valid { IsTrue (is_layout self.now) }
@@ -68,7 +67,7 @@ impl Format {
         self.bits
     }
 
-    /// The channels, 1 or 2.
+    /// The number of channels, 1 or 2.
     pub fn channels(&self) -> u16
         ensures value { result ≡ self.now.channels }
         ensures valid { IsTrue (is_layout self.now) }

@@ -7,8 +7,8 @@ use mt_op::Digest;
 use std::alloc::{Allocator, Global};
 use std::marker::Model;
 
-/// The bytes of a file, with their digest, which need not be worked out again. Contracts see the
-/// bytes.
+/// The bytes of a file with their digest, so that it need not be computed again. Its value in
+/// contracts is the bytes.
 #[derive(Drop)]
 pub struct HashedFile<A: Allocator = Global> {
     digest: Digest,
@@ -27,7 +27,7 @@ impl<A: Allocator> Model for HashedFile<A> {
 }
 
 impl<A: Allocator> HashedFile<A> {
-    /// A file of these bytes. That the digest is theirs the caller shows. Takes no memory.
+    /// A file of these bytes. The caller must show that the digest is theirs. Allocates nothing.
     pub fn new(digest: Digest, bytes: Vec<u8, A>) -> HashedFile<A>
         requires hashed { digest.0 ≡ sha256 bytes.items }
         ensures { result ≡ bytes.items }
@@ -35,14 +35,14 @@ impl<A: Allocator> HashedFile<A> {
         HashedFile { digest, bytes }
     }
 
-    /// The digest of its bytes.
+    /// The digest of the bytes.
     pub fn digest(&self) -> Digest
         ensures { result.0 ≡ sha256 self.now }
     {
         self.digest
     }
 
-    /// Its bytes.
+    /// The bytes.
     pub fn bytes(&self) -> &[u8]
         ensures { result.now ≡ self.now }
     {

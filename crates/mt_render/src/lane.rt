@@ -1,4 +1,4 @@
-//! What is heard of a track.
+//! The audible parts of a track.
 
 ghost use Rattle.std.specs.Prelude.{◌≡◌, ℕ, ◌+◌, ◌*◌, ◌<◌, ◌≤◌, ◌^◌, length, unsigned_abs};
 ghost use Rattle.mt_render.specs.Parts.{IsAt, all_give, AreRising};
@@ -10,7 +10,7 @@ use mt_bwfread::laws::small_samples;
 use std::alloc::Allocator;
 use std::marker::Model;
 
-/// The parts of a track that is heard: they rise, and no two hold one frame.
+/// The parts of a track that is not muted: they rise, and no two have a frame in common.
 #[derive(Drop)]
 pub(crate) struct Lane<'c, 'a, A: Allocator> {
     pub(crate) parts: Vec<Part<'c, 'a>, A>,
@@ -28,7 +28,7 @@ impl<'c, 'a, A: Allocator> Model for Lane<'c, 'a, A> {
     ghost invariant = { λ l. AreRising l.parts.items };
 }
 
-// The first part that ends behind a frame, by halving.
+// The index of the first part that ends after a frame, by binary search.
 fn first_behind(parts: &[Part], frame: u64) -> usize
     requires rising { AreRising parts.now }
     ensures within { result ≤ length parts.now }
@@ -48,7 +48,7 @@ fn first_behind(parts: &[Part], frame: u64) -> usize
     low
 }
 
-// The greatest gain, rounded up: nothing that is given passes 2^31 times this.
+// The greatest gain, rounded up: no contribution exceeds 2^31 times this.
 fn reach_of(parts: &[Part]) -> u64
     requires rising { AreRising parts.now }
     ensures enough { (f c : ℕ) → unsigned_abs (all_give f c parts.now) ≤ 2 ^ 31 * result }
@@ -62,7 +62,7 @@ fn reach_of(parts: &[Part]) -> u64
     max_gain
 }
 
-// Adds what the parts contribute to the sums of the frames from `first` on.
+// Adds the contributions of the parts to the sums of the frames from `first` on.
 fn add_parts(parts: &[Part], first: u64, channel: u16, sums: &mut [i64], samples: &mut [i32])
     requires rising { AreRising parts.now }
     requires long { length sums.old ≤ length samples.old }
@@ -80,7 +80,7 @@ fn add_parts(parts: &[Part], first: u64, channel: u16, sums: &mut [i64], samples
     }
 }
 
-// What the part that holds a frame contributes to it.
+// The contribution to a frame of the part that has this frame.
 fn give(parts: &[Part], frame: u64, channel: u16) -> i64
     requires rising { AreRising parts.now }
     requires near { frame < 2 ^ 33 }
@@ -98,7 +98,7 @@ impl<'c, 'a, A: Allocator> Lane<'c, 'a, A> {
     ghost use Rattle.mt_render.specs.Parts.{all_give};
     ghost use Rattle.mt_render.specs.Sums.{HaveGained};
 
-    /// What the track contributes to a frame on a channel.
+    /// The contribution of the track to a frame on a channel.
     pub(crate) fn give(&self, frame: u64, channel: u16) -> i64
         requires near { frame < 2 ^ 33 }
         ensures { result ≡ all_give frame channel self.now }
@@ -106,8 +106,8 @@ impl<'c, 'a, A: Allocator> Lane<'c, 'a, A> {
         give(self.parts.as_slice(), frame, channel)
     }
 
-    /// Adds what the track contributes to the sums of the frames from `first` on. The samples are
-    /// room to work in.
+    /// Adds the contributions of the track to the sums of the frames from `first` on. `samples` is
+    /// scratch space.
     pub(crate) fn add(&self, first: u64, channel: u16, sums: &mut [i64], samples: &mut [i32])
         requires long { length sums.old ≤ length samples.old }
         requires near { first < 2 ^ 33 }
@@ -117,7 +117,7 @@ impl<'c, 'a, A: Allocator> Lane<'c, 'a, A> {
         add_parts(self.parts.as_slice(), first, channel, sums, samples);
     }
 
-    /// The greatest gain, rounded up: no contribution passes 2^31 times this.
+    /// The greatest gain, rounded up: no contribution exceeds 2^31 times this.
     pub(crate) fn max_gain(&self) -> u64
         ensures enough { (f c : ℕ) → unsigned_abs (all_give f c self.now) ≤ 2 ^ 31 * result }
         ensures small { result ≤ 2 ^ 32 }

@@ -12,8 +12,8 @@ ghost use Rattle.mt_render.specs.Refusals.{IsAmong};
 
 use crate::fault::{MixFault, SourceFault};
 
-/// Of clips whose places differ, that of the greatest place among those that would sound in a frame
-/// does, in whatever order they stand; where none would, none does.
+/// Of clips whose places differ, the one with the greatest place among those that would sound at a
+/// frame sounds, in whatever order the clips are listed; if none would sound, none does.
 pub fn sounding_clip()
     ensures top { (clips : List Clip) (f : ℕ) (c : Clip) → DifferBy (λ (x : Clip). x.place) clips
         → IsAmong c clips → sounds c f ≡ true
@@ -23,27 +23,27 @@ pub fn sounding_clip()
         → sounding clips f ≡ None }
 {}
 
-/// Blocks of any sizes, end to end, are the samples of the programme in order: frame after frame,
-/// the channels of each side by side. So how a programme is cut into blocks changes nothing.
+/// Blocks of any sizes, one after another, are the samples of the programme in order: frame after
+/// frame, with interleaved channels. So it does not matter how a programme is cut into blocks.
 pub fn blocks()
     ensures { BlocksAreSamples }
 {}
 
-/// Of the recordings only those count that are under the digests of audible clips, the clips that
-/// are not muted on tracks that are not: over two catalogues that find the same under each of these
-/// digests, or both nothing, both mixes can be made or neither, both are refused for the same, and
-/// each sample is one.
+/// Only those recordings matter that are under the digests of audible clips, the clips that are not
+/// muted on tracks that are not. If two catalogues find the same under each of these digests, or
+/// both nothing, then both mixes can be made or neither, both fail for the same reasons, and all
+/// samples are equal.
 pub fn same_recordings()
     ensures { OnlyAudibleCount }
 {}
 
-/// A programme that can be mixed is refused for want of memory alone, and one that is refused for
-/// something else is so for one reason, with one digest.
+/// A programme that can be mixed fails only when out of memory, and one that fails for another
+/// reason fails for exactly one, with one digest.
 pub fn one_refusal()
     ensures { (p : Programme) → HasOneAnswer p }
 {}
 
-/// Refusals of a recording are equal where they are of one case and have the same fault of the
+/// Faults of a recording are equal if they are of one case and have the same fault of the wave
 /// file.
 pub fn equal_source_faults(fault: &SourceFault, other: &SourceFault) -> bool
     ensures { IsTrue result ↔ (fault.now ≡ other.now) }
@@ -51,7 +51,7 @@ pub fn equal_source_faults(fault: &SourceFault, other: &SourceFault) -> bool
     fault == other
 }
 
-/// Refusals of a mix are equal where they are of one case and name the same digest.
+/// Faults of a mix are equal if they are of one case and have the same digest.
 pub fn equal_mix_faults(fault: &MixFault, other: &MixFault) -> bool
     ensures { IsTrue result ↔ (fault.now ≡ other.now) }
 {

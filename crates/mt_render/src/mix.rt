@@ -17,7 +17,7 @@ use mt_sessionview::Session;
 use std::alloc::{Allocator, Global};
 use std::marker::Model;
 
-// Whether the samples of so many frames are over 4,000,000,000 bytes.
+// Whether the samples of this many frames are over 4,000,000,000 bytes.
 fn is_too_long(length: u64, format: Format) -> bool
     requires { length < 2 ^ 33 }
     ensures { IsTrue result ↔ (greatest_size < length * (format.channels * (format.bits / 8))) }
@@ -49,11 +49,11 @@ impl<'c, 'a, A: Allocator> Model for Mix<'c, 'a, A> {
 }
 
 impl<'c, 'a, A: Allocator> Mix<'c, 'a, A> {
-    /// The mix of a session. Refused, in this order: `MissingSource` (33) with the least digest of
-    /// an audible clip that is not in the catalogue, `RateDiffers` (34) with the least of one whose
-    /// recording is of another rate than the format's, `TooLong` (35) where the samples are over
-    /// 4,000,000,000 bytes; and as `Memory` (0) where an allocation fails. A clip is audible where
-    /// neither it nor its track is muted, though others may lie over it.
+    /// The mix of a session. Fails, in this order, with `MissingSource` (33) and the least digest
+    /// of an audible clip that is not in the catalogue, `RateDiffers` (34) and the least digest of
+    /// one whose recording is of another rate than the format's, `TooLong` (35) if the samples are
+    /// over 4,000,000,000 bytes; and with `Memory` (0) if an allocation fails. A clip is audible if
+    /// neither it nor its track is muted, though others may cover it.
     pub fn new(
         alloc: A,
         session: &'c Session<A>,
@@ -95,14 +95,15 @@ impl<'c, 'a, A: Allocator> Mix<'c, 'a, A> {
         })
     }
 
-    /// The format. Takes no memory.
+    /// The format. Allocates nothing.
     pub fn format(&self) -> Format
         ensures { result ≡ self.now.layout }
     {
         self.format
     }
 
-    /// The length in frames: where the last audible clip ends, or 0. Takes no memory.
+    /// The length in frames: the end of the last audible clip, or 0 if there is none. Allocates
+    /// nothing.
     pub fn length(&self) -> u64
         ensures value { result ≡ length_of self.now.tracks }
         ensures small { result < 2 ^ 33 }
@@ -110,8 +111,8 @@ impl<'c, 'a, A: Allocator> Mix<'c, 'a, A> {
         self.length
     }
 
-    /// Fills whole frames from `first` on, the channels side by side. The slice has a whole number
-    /// of frames, which end at the programme's length at most. Takes no memory.
+    /// Fills a slice with interleaved frames from `first` on. The slice must have a whole number of
+    /// frames, which end at the programme's length at most. Allocates nothing.
     pub fn block(&self, first: u64, samples: &mut [i32])
         requires whole { length samples.old % self.now.layout.channels ≡ 0 }
         requires within { first + length samples.old / self.now.layout.channels
@@ -120,8 +121,8 @@ impl<'c, 'a, A: Allocator> Mix<'c, 'a, A> {
             ≡ mixed_sample self.now (first + k / self.now.layout.channels)
             (k % self.now.layout.channels) }
     {
-        // Every sum of a narrow mix is below 2^62. A clip at 65535/1 on a track at 65535/1 alone
-        // nearly reaches 2^63: it takes the wide way.
+        // Every sum of a narrow mix is below 2^62. A single clip at 65535/1 on a track at 65535/1
+        // nearly reaches 2^63, so it is mixed the wide way.
         let lanes = self.lanes.as_slice();
         if self.narrow {
             fill_narrow(lanes, self.format, first, samples);

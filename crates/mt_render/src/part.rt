@@ -1,4 +1,4 @@
-//! The frames in which one clip sounds.
+//! The frames at which one clip sounds.
 
 ghost use Rattle.std.specs.Prelude.{◌≡◌, ℕ, ◌+◌, ◌<◌, ◌≤◌, ◌^◌, length};
 ghost use Rattle.mt_bwfread.specs.Wave.{channels_of};
@@ -8,7 +8,7 @@ use crate::fade::Fades;
 use crate::scale::Scale;
 use mt_bwfread::Wave;
 
-/// The frames in which one clip sounds, with what is known of it there.
+/// The frames at which one clip sounds, with its position, offset, fades, gain and recording.
 #[derive(Clone, Copy)]
 pub(crate) struct Part<'c, 'a> {
     pub(crate) start: u64,
@@ -22,7 +22,7 @@ pub(crate) struct Part<'c, 'a> {
     ghost ended: { end ≤ at + fades.len },
 }
 
-// What is heard of a recording in a frame on a channel.
+// The sample of a recording at a frame on a channel, or silence after its end.
 fn heard(wave: &Wave<'_>, frame: u64, channel: u16) -> i32
     requires in_channels { channel < channels_of wave.now }
     ensures { result ≡ sample_or_silence wave.now frame channel }
@@ -37,7 +37,8 @@ impl<'c, 'a> Part<'c, 'a> {
     ghost use Rattle.mt_render.specs.Parts.{gives, within};
     ghost use Rattle.mt_render.specs.Sums.{HaveGained};
 
-    /// What the clip contributes to a frame on a channel: nothing in a frame outside.
+    /// The contribution of the clip to a frame on a channel: nothing at a frame outside of the
+    /// part.
     pub(crate) fn give(&self, frame: u64, channel: u16) -> i64
         requires near { frame < 2 ^ 33 }
         ensures { result ≡ gives frame channel self.now }
@@ -52,8 +53,8 @@ impl<'c, 'a> Part<'c, 'a> {
         self.fades.of(sample, &self.scale, index)
     }
 
-    /// Adds what the clip contributes to the sums of the frames from `first` on. The samples are
-    /// room to work in.
+    /// Adds the contributions of the clip to the sums of the frames from `first` on. `samples` is
+    /// scratch space.
     pub(crate) fn add(&self, first: u64, channel: u16, sums: &mut [i64], samples: &mut [i32])
         requires long { length sums.old ≤ length samples.old }
         requires near { first < 2 ^ 33 }
@@ -76,8 +77,8 @@ impl<'c, 'a> Part<'c, 'a> {
         falling.add_at_once(first, channel, sums, samples);
     }
 
-    // The same in the clip's frames from one on and below another alone, by fades that leave as
-    // much of these.
+    // The part cut to the clip's frames from `from` on and below `to`, with fades that have the
+    // same levels at these frames.
     fn cut(&self, from: u32, to: u32, fades: Fades) -> Part<'c, 'a>
         requires len { fades.len ≡ self.now.fades.len }
         requires alike { AreAlike fades self.now.fades from to }
@@ -96,7 +97,7 @@ impl<'c, 'a> Part<'c, 'a> {
         }
     }
 
-    // Adds what the clip contributes, frame after frame in one way.
+    // Adds the contributions of the clip, all frames in one loop.
     fn add_at_once(&self, first: u64, channel: u16, sums: &mut [i64], samples: &mut [i32])
         requires long { length sums.old ≤ length samples.old }
         requires near { first < 2 ^ 33 }

@@ -1,4 +1,4 @@
-//! Samples times numerators that change from frame to frame, over a divisor that stays.
+//! Samples times numerators that change from frame to frame, over a divisor that does not change.
 
 ghost use Rattle.std.specs.Prelude.{◌≡◌, ◌+◌, ◌-◌, ◌*◌, ◌/◌, ◌<◌, ◌≤◌, ◌^◌, pos, ◌*ℤ◌, ◌+ℤ◌};
 ghost use Rattle.mt_render.specs.Mix.{rounded};
@@ -6,7 +6,7 @@ ghost use Rattle.mt_render.specs.Mix.{rounded};
 use crate::divisor::{Divisor, Quotients};
 use crate::step::unbiased;
 
-/// A divisor, and how often it is added so that no product is below zero.
+/// A divisor, with a bias in multiples of it that keeps every product at or above zero.
 #[derive(Clone, Copy)]
 pub(crate) struct Ramp {
     pub(crate) divisor: Divisor,
@@ -22,7 +22,7 @@ pub(crate) struct Ramp {
 }
 
 impl Ramp {
-    /// For numerators up to `most`.
+    /// The ramp for numerators up to `most`.
     pub(crate) fn new(divisor: Divisor, most: u32) -> Ramp
         requires { most ≤ 2 ^ 32 - 2 ^ 22 }
         ensures divisor { result.divisor ≡ divisor }
@@ -37,7 +37,7 @@ impl Ramp {
         }
     }
 
-    /// What a sample gives under a numerator.
+    /// The rounded product of a sample and `num` over the divisor.
     #[inline]
     pub(crate) fn of<Q: Quotients>(&self, x: i32, num: u32) -> i64
         requires most { num ≤ self.now.most }
@@ -48,7 +48,7 @@ impl Ramp {
     }
 }
 
-// A product with half a divisor and `turns` divisors added, which is not below zero.
+// A product plus half a divisor and `bias` divisors, which is not below zero.
 #[inline]
 fn lifted(x: i32, num: u32, ramp: &Ramp) -> u64
     requires { num ≤ ramp.now.most }

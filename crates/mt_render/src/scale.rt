@@ -1,4 +1,4 @@
-//! The gain of a clip on its track, reduced, with what makes it quick to multiply by.
+//! The gain of a clip on its track, in lowest terms, with what makes multiplying by it fast.
 
 ghost use Rattle.std.specs.Prelude.{◌≡◌, ℕ, ◌+◌, ◌*◌, ◌/◌, ◌<◌, ◌≤◌, ◌^◌, length, pos, ◌+ℤ◌, ◌*ℤ◌};
 ghost use Rattle.std.specs.Prelude.{ℤ};
@@ -11,7 +11,7 @@ use crate::divisor::Divisor;
 use crate::step::{Integer, MulHigh, MulShift, MulShift65, Shift, Unity, add_each};
 use mt_op::Gain;
 
-// A number that divides both: the greatest that does.
+// The greatest common divisor.
 fn divisor(a: u32, b: u32) -> u32
     requires { 0 < b }
     ensures some { 0 < result }
@@ -28,18 +28,18 @@ fn divisor(a: u32, b: u32) -> u32
     x
 }
 
-/// A product of two gains in lowest terms. Half of `den` and `turns` times `den`, added to a
-/// product of `num` with any sample, leave nothing below zero: `lift` is what is added to the
-/// product of a sample that begins at zero.
+/// A product of two gains in lowest terms. Half of `den` plus `bias` times `den`, added to a
+/// product of `num` with any sample, gives at least zero. `bias_quotients` is what is added to the
+/// product instead if the sample is first shifted to begin at zero.
 #[derive(Clone, Copy)]
 pub(crate) struct Scale {
     pub(crate) num: u32,
     pub(crate) den: u32,
     pub(crate) bias_quotients: u64,
     pub(crate) bias: u64,
-    // `den` is two to the power of this, or this is 0
+    // the exponent if `den` is a power of two, or 0
     pub(crate) bits: u32,
-    // some 2^64 / `den`, where that is near enough for each sample, or 0
+    // about 2^64 / `den`, if that is precise enough for each sample, or 0
     pub(crate) inverse: u64,
     ghost num_to: { num ≤ 4294836225 },
     ghost den_from: { 1 ≤ den },
@@ -52,7 +52,7 @@ pub(crate) struct Scale {
     ghost near: { 0 < inverse → Inverts num den bias_quotients inverse },
 }
 
-// A product and half a divisor, which stay below 2^63.
+// A product plus half a divisor, which is below 2^63.
 #[inline]
 fn lifted(x: i32, num: u32, half: u32) -> i64
     requires num_to { num ≤ 4294836225 }
@@ -62,7 +62,7 @@ fn lifted(x: i32, num: u32, half: u32) -> i64
     i64::from(x) * i64::from(num) + i64::from(half)
 }
 
-// How often `den` goes into the size of the product of the least sample, rounded up.
+// How often `den` goes into the magnitude of the product of the least sample, rounded up.
 fn turns_of(num: u32, den: u32) -> u64
     requires num_to { num ≤ 4294836225 }
     requires den_from { 1 ≤ den }
@@ -74,7 +74,7 @@ fn turns_of(num: u32, den: u32) -> u64
     (u64::from(num) * 2147483648 + (den - 1)) / den
 }
 
-// The power of two that a divisor is, or 0 where it is none or 1.
+// The exponent of a divisor that is a power of two, or 0 if it is not one or is 1.
 fn bits_of(den: u32) -> u32
     requires { 1 ≤ den }
     ensures small { result < 32 }
@@ -84,7 +84,7 @@ fn bits_of(den: u32) -> u32
     if 1 << bits == den { bits } else { 0 }
 }
 
-// 2^64 / `den`, rounded up, where a product with it is exact enough for each sample, or 0.
+// 2^64 / `den`, rounded up, if a product with it is precise enough for each sample, or 0.
 fn inverse_of(num: u32, den: u32, bias_quotients: u64) -> u64
     requires num_to { num ≤ 4294836225 }
     requires lift_to { bias_quotients < 2 ^ 33 }
@@ -125,7 +125,7 @@ fn scale_of(num: u32, den: u32) -> Scale
 }
 
 impl Scale {
-    /// The gain of a clip times that of its track.
+    /// The gain of a clip times the gain of its track.
     pub(crate) fn new(clip: Gain, track: Gain) -> Scale
         ensures { (x : ℤ) (level full : ℕ) → 0 < full → rounded (x *ℤ pos (result.num * level))
             (result.den * full) ≡ rounded (x *ℤ pos ((clip.num * track.num) * level))
@@ -137,8 +137,8 @@ impl Scale {
         scale_of(num / common, den / common)
     }
 
-    /// What a sample contributes. A product of 32 bits by 32 and half a divisor stay below 2^63, so
-    /// 64 bits are enough.
+    /// The contribution of a sample. A product of 32 bits by 32 plus half a divisor is below 2^63,
+    /// so 64 bits are enough.
     #[inline]
     pub(crate) fn of(&self, x: i32) -> i64
         ensures { result ≡ rounded (x *ℤ pos self.now.num) self.now.den }
@@ -146,8 +146,8 @@ impl Scale {
         lifted(x, self.num, self.den / 2).div_euclid(i64::from(self.den))
     }
 
-    /// Adds what each sample contributes to the sum at its place: six loops to the same numbers,
-    /// none of which looks at more than its samples.
+    /// Adds the contribution of each sample to the sum at the same index: one of six loops, chosen
+    /// by the gain, with the same results. Each looks only at its samples.
     pub(crate) fn add(&self, sums: &mut [i64], samples: &[i32])
         requires { length sums.old ≤ length samples.now }
         ensures { HaveGained sums.old sums.new (λ k. rounded (at samples.now k *ℤ pos self.now.num)

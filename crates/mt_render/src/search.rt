@@ -1,4 +1,5 @@
-//! What is asked of all audible clips: whether one fails a test, and where the last one ends.
+//! Searches over all audible clips: for the least digest that fails a test, and for the end of the
+//! last clip.
 
 ghost use Rattle.std.specs.Prelude.{◌≡◌, ◌+◌, ◌<◌, ◌^◌, ◌++◌, List, [], Bool, if◌then◌else◌};
 ghost use Rattle.mt_op.specs.declared.digest.Digest.{Digest as DigestOf};
@@ -12,7 +13,7 @@ use mt_op::Digest;
 use mt_sessionview::{ClipView, TrackView};
 use std::alloc::Allocator;
 
-/// What a digest can fail.
+/// A test of digests.
 pub(crate) trait Test {
     ghost fails: { Self → DigestOf → Bool };
 
@@ -20,7 +21,7 @@ pub(crate) trait Test {
         ensures { result ≡ fails self.now digest.now };
 }
 
-/// That a recording is there.
+/// Tests that a recording is in the catalogue.
 #[derive(Drop)]
 pub(crate) struct IsThere<'c, 'a, A: Allocator> {
     pub(crate) catalogue: &'c Catalogue<'a, A>,
@@ -34,7 +35,7 @@ impl<'c, 'a, A: Allocator> Test for IsThere<'c, 'a, A> {
     }
 }
 
-/// That a recording is of this rate.
+/// Tests that a recording is of this rate.
 #[derive(Drop)]
 pub(crate) struct IsOfRate<'c, 'a, A: Allocator> {
     pub(crate) catalogue: &'c Catalogue<'a, A>,
@@ -52,7 +53,7 @@ impl<'c, 'a, A: Allocator> Test for IsOfRate<'c, 'a, A> {
     }
 }
 
-// The lesser of a digest and one that may be there.
+// The lesser of a digest and another one, if there is one.
 fn lesser(digest: Digest, other: Option<Digest>) -> Digest
     ensures { result ≡ lesser digest other }
 {
@@ -68,8 +69,8 @@ fn lesser(digest: Digest, other: Option<Digest>) -> Digest
     }
 }
 
-// The least of a digest that may be there and of that of a clip, where it is not muted and fails a
-// test.
+// The lesser of the digest found before, if any, and the digest of this clip, if it is not muted
+// and fails the test.
 fn least_with<T: Test>(clip: &ClipView, test: &T, before: Option<Digest>) -> Option<Digest>
     ensures { result ≡ least_with (T.fails test.now) clip.now before }
 {
@@ -83,7 +84,7 @@ fn least_with<T: Test>(clip: &ClipView, test: &T, before: Option<Digest>) -> Opt
     }
 }
 
-// The least of a digest that may be there and of those that clips fail a test with.
+// The least of the digest found before, if any, and the digests of these clips that fail the test.
 fn least_of_clips<T: Test>(clips: &[ClipView], test: &T, before: Option<Digest>) -> Option<Digest>
     ensures { (seen : List Clip) → LeastOf seen (T.fails test.now) before
         → LeastOf (seen ++ unmuted clips.now) (T.fails test.now) result }
@@ -95,14 +96,14 @@ fn least_of_clips<T: Test>(clips: &[ClipView], test: &T, before: Option<Digest>)
     least
 }
 
-// The clips of a track that is not muted; none of one that is.
+// The clips of a track; none if it is muted.
 fn audible_clips<A: Allocator>(track: &TrackView<A>) -> &[ClipView]
     ensures { result.now ≡ (if track.now.mute then [] else track.now.clips) }
 {
     if track.mute { &[] } else { track.clips.items() }
 }
 
-/// The least digest of audible clips that fails a test.
+/// The least digest of the audible clips that fails the test.
 pub(crate) fn least<T: Test, A: Allocator>(tracks: &[TrackView<A>], test: &T) -> Option<Digest>
     ensures { LeastOf (audible tracks.now) (T.fails test.now) result }
 {
@@ -113,7 +114,7 @@ pub(crate) fn least<T: Test, A: Allocator>(tracks: &[TrackView<A>], test: &T) ->
     least
 }
 
-// The first frame behind a clip that is not muted; 0 of one that is.
+// The end of a clip, the frame after its last; 0 if it is muted.
 fn clip_end(clip: &ClipView) -> u64
     ensures value { result ≡ (if clip.now.mute then 0 else clip.now.at + clip.now.len) }
     ensures small { result < 2 ^ 33 }
@@ -125,7 +126,7 @@ fn clip_end(clip: &ClipView) -> u64
     }
 }
 
-// The first frame behind all clips that are not muted.
+// The end of the last of these clips that is not muted, or 0.
 fn end_of(clips: &[ClipView]) -> u64
     ensures value { result ≡ clips_end clips.now }
     ensures small { result < 2 ^ 33 }
@@ -137,7 +138,7 @@ fn end_of(clips: &[ClipView]) -> u64
     end
 }
 
-/// The first frame behind all audible clips.
+/// The end of the last audible clip, or 0.
 pub(crate) fn length<A: Allocator>(tracks: &[TrackView<A>]) -> u64
     ensures value { result ≡ length_of tracks.now }
     ensures small { result < 2 ^ 33 }

@@ -1,4 +1,4 @@
-//! What the clips of a track cover.
+//! The frames that the clips of a track cover.
 
 ghost use Rattle.std.specs.Prelude.{◌≡◌, ◌<◌, length, IfOk};
 ghost use Rattle.mt_render.specs.Lanes.{clip_at, span_of, AreSpans};
@@ -7,7 +7,7 @@ use mt_overlap::Span;
 use mt_sessionview::ClipView;
 use std::alloc::{AllocError, Allocator};
 
-/// The clip of an index.
+/// The clip at an index.
 pub(crate) fn clip_at(clips: &[ClipView], index: usize) -> ClipView
     requires { index < length clips.now }
     ensures { result ≡ clip_at clips.now index }
@@ -15,7 +15,7 @@ pub(crate) fn clip_at(clips: &[ClipView], index: usize) -> ClipView
     clips[index]
 }
 
-// What a clip covers: nothing where it is muted.
+// The frames that a clip covers: none if it is muted.
 fn span_of(clip: &ClipView) -> Span
     ensures { result ≡ span_of clip.now }
 {
@@ -26,11 +26,12 @@ fn span_of(clip: &ClipView) -> Span
     }
 }
 
-/// What the clips of a track cover, a span for each clip, in the order of the clips: the frames
-/// from its first on, as many as it is long, and none of one that is muted. Each has the place
-/// stamp of its clip, so `mt_overlap::segments` of them tells at which frames which clip sounds.
+/// The frames that the clips of a track cover: a span for each clip, in the order of the clips,
+/// from the clip's first frame on and as long as the clip, and empty if it is muted. Each span has
+/// the place stamp of its clip, so `mt_overlap::segments` of them finds at which frames which clip
+/// sounds.
 ///
-/// `AllocError` only where an allocation failed. In a time linear in the number of clips.
+/// Fails with `AllocError` only if an allocation failed. Takes time linear in the number of clips.
 pub fn spans_of<A: Allocator>(alloc: A, clips: &[ClipView]) -> Result<Vec<Span, A>, AllocError>
     ensures ok { IfOk result (λ spans. AreSpans clips.now spans.items) }
 {

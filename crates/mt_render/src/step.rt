@@ -1,4 +1,4 @@
-//! From samples to what they add to sums: several ways to the same numbers.
+//! From samples to what they add to sums: several kernels with the same results.
 
 ghost use Rattle.std.specs.Prelude.{◌≡◌, ℕ, ◌+◌, ◌*◌, ◌/◌, ◌<◌, ◌≤◌, ◌^◌, length, pos, ◌+ℤ◌, ◌-ℤ◌};
 ghost use Rattle.std.specs.Prelude.{◌*ℤ◌, ℤ};
@@ -9,7 +9,7 @@ ghost use Rattle.mt_render.specs.Sums.{HaveGained};
 use crate::divisor::{Divisor, upper};
 use crate::scale::Scale;
 
-/// A way from a sample to what it adds to a sum.
+/// A way of computing what a sample adds to a sum.
 pub(crate) trait GainKernel {
     ghost gives: { Self → ℤ → ℤ };
 
@@ -17,7 +17,7 @@ pub(crate) trait GainKernel {
         ensures { result ≡ gives self.now x };
 }
 
-/// The sample itself.
+/// Adds the sample itself.
 #[derive(Drop)]
 pub(crate) struct Unity;
 
@@ -30,7 +30,7 @@ impl GainKernel for Unity {
     }
 }
 
-/// The sample times a whole number.
+/// Adds the sample times a whole number.
 #[derive(Drop)]
 pub(crate) struct Integer {
     pub(crate) num: u32,
@@ -46,7 +46,7 @@ impl GainKernel for Integer {
     }
 }
 
-// A product with half a divisor and `turns` divisors added, which is not below zero.
+// A product plus half a divisor and `bias` divisors, which is not below zero.
 #[inline]
 fn lifted(x: i32, scale: &Scale) -> u64
     ensures value { pos result ≡ (x *ℤ pos scale.now.num +ℤ pos (scale.now.den / 2)) +ℤ pos
@@ -57,7 +57,7 @@ fn lifted(x: i32, scale: &Scale) -> u64
     u64::from(from_zero) * u64::from(scale.num) + scale.bias_quotients
 }
 
-/// A quotient without the turns that were added.
+/// A quotient less the bias that was added.
 #[inline]
 pub(crate) fn unbiased(quotient: u64, bias: u64) -> i64
     requires quotient_to { quotient < 2 ^ 63 }
@@ -67,7 +67,7 @@ pub(crate) fn unbiased(quotient: u64, bias: u64) -> i64
     quotient as i64 - bias as i64
 }
 
-/// The sample times a fraction over a power of two.
+/// Adds the sample times a fraction whose divisor is a power of two.
 #[derive(Drop)]
 pub(crate) struct Shift {
     pub(crate) scale: Scale,
@@ -84,7 +84,7 @@ impl GainKernel for Shift {
     }
 }
 
-/// The sample times a fraction, its divisor taken as a product.
+/// Adds the sample times a fraction, with the division done as a product.
 #[derive(Drop)]
 pub(crate) struct MulHigh {
     pub(crate) scale: Scale,
@@ -104,7 +104,7 @@ impl GainKernel for MulHigh {
     }
 }
 
-/// The sample times a fraction, its divisor taken as a product and a shift.
+/// Adds the sample times a fraction, with the division done as a product and a shift.
 #[derive(Drop)]
 pub(crate) struct MulShift {
     pub(crate) scale: Scale,
@@ -125,7 +125,7 @@ impl GainKernel for MulShift {
     }
 }
 
-/// The sample times any fraction, its divisor taken as a product, a sum and a shift.
+/// Adds the sample times any fraction, with the division done as a product, a sum and a shift.
 #[derive(Drop)]
 pub(crate) struct MulShift65 {
     pub(crate) scale: Scale,
@@ -145,7 +145,7 @@ impl GainKernel for MulShift65 {
     }
 }
 
-/// Adds what each sample gives to the sum at its place, modulo 2^64.
+/// Adds the result of each sample to the sum at the same index, modulo 2^64.
 pub(crate) fn add_each<S: GainKernel>(sums: &mut [i64], samples: &[i32], step: &S)
     requires { length sums.old ≤ length samples.now }
     ensures { HaveGained sums.old sums.new (λ k. S.gives step.now (at samples.now k)) }

@@ -1,4 +1,4 @@
-//! Samples out of what the tracks give.
+//! Output samples from the contributions of the tracks.
 
 ghost use Rattle.std.specs.Prelude.{◌≡◌, ℕ, ◌+◌, ◌<◌, ◌≤◌, ◌^◌, IsTrue, length, unsigned_abs};
 ghost use Rattle.mt_render.specs.Mix.{output};
@@ -8,8 +8,8 @@ ghost use Rattle.mt_render.specs.Sums.{HaveGained, IsNarrow};
 use crate::lane::Lane;
 use std::alloc::Allocator;
 
-/// What all tracks give to a frame on a channel. Each gives less than 2^63 and there are fewer than
-/// 2^63, so 128 bits hold the sum.
+/// The sum of the contributions of all tracks to a frame on a channel. Each is below 2^63 and there
+/// are fewer than 2^63, so 128 bits are enough.
 pub(crate) fn sum_of<A: Allocator>(lanes: &[Lane<'_, '_, A>], frame: u64, channel: u16) -> i128
     requires near { frame < 2 ^ 33 }
     ensures value { result ≡ lanes_give frame channel lanes.now }
@@ -22,8 +22,8 @@ pub(crate) fn sum_of<A: Allocator>(lanes: &[Lane<'_, '_, A>], frame: u64, channe
     sum
 }
 
-/// Adds what all tracks give to the sums of the frames from `first` on, modulo 2^64. The samples
-/// are room to work in.
+/// Adds the contributions of all tracks to the sums of the frames from `first` on, modulo 2^64.
+/// `samples` is scratch space.
 pub(crate) fn add_lanes<A: Allocator>(
     lanes: &[Lane<'_, '_, A>],
     first: u64,
@@ -41,8 +41,9 @@ pub(crate) fn add_lanes<A: Allocator>(
     }
 }
 
-/// Whether every sum is far below 2^62, so that 64 bits hold it and half of what is cut off too: no
-/// track gives more than 2^31 times its greatest gain, and these gains are together below 2^30.
+/// Whether every sum is far below 2^62, so that it fits 64 bits even with half of the discarded
+/// part added: no track contributes more than 2^31 times its greatest gain, and these gains
+/// together are below 2^30.
 pub(crate) fn are_narrow<A: Allocator>(lanes: &[Lane<'_, '_, A>]) -> bool
     ensures { IsTrue result → (f c : ℕ) → IsNarrow (lanes_give f c lanes.now) }
 {
@@ -56,7 +57,8 @@ pub(crate) fn are_narrow<A: Allocator>(lanes: &[Lane<'_, '_, A>]) -> bool
     true
 }
 
-/// The sample of a sum, in 16 or 24 bits: its upper bits, rounded to the nearest, and cut.
+/// The output sample of a sum, in 16 or 24 bits: its upper bits, rounded to the nearest, and
+/// clipped.
 pub(crate) fn put_out(bits: u16, sum: i128) -> i32
     requires { unsigned_abs sum < 2 ^ 126 }
     ensures { result ≡ output bits sum }
@@ -68,7 +70,7 @@ pub(crate) fn put_out(bits: u16, sum: i128) -> i32
     }
 }
 
-/// The same of a sum of 64 bits, which is right where the sum is narrow.
+/// The output sample of a sum of 64 bits, which is right if the sum is narrow.
 #[inline]
 pub(crate) fn put_out_narrow(bits: u16, sum: i64) -> i32
     ensures { IsNarrow sum → result ≡ output bits sum }

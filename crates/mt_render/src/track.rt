@@ -24,7 +24,7 @@ use mt_overlap::{Segment, segments};
 use mt_sessionview::{ClipView, TrackView};
 use std::alloc::{AllocError, Allocator};
 
-// The segment of an index.
+// The segment at an index.
 fn segment_at(segments: &[Segment], index: usize) -> Segment
     requires { index < length segments.now }
     ensures { result ≡ segment_at segments.now index }
@@ -109,7 +109,7 @@ fn lane_of<'c, 'a, A: Allocator + Clone>(
     Ok(Lane { parts })
 }
 
-/// Adds the lane of a track: none of one that is muted.
+/// Appends the lane of a track, unless it is muted.
 pub(crate) fn add_audible<'c, 'a, A: Allocator + Clone>(
     alloc: &A,
     catalogue: &'c Catalogue<'a, A>,

@@ -1,4 +1,4 @@
--- By what values are told apart, where a contract compares them.
+-- Codes of values, which distinguish them where a contract compares them.
 use Rattle.std.specs.Prelude.{Bool, Option, refl}
 use Rattle.std.specs.Coded.{Coded, code_by, coded×, coded_bool, coded_option}
 use Rattle.std.specs.FinMap as map

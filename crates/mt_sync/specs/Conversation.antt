@@ -1,4 +1,4 @@
--- One end of a conversation (profile): what it waits for, and what each byte does to it.
+-- One end of a conversation (profile): what it waits for, and the effect of each byte.
 use Rattle.std.specs.Prelude.{ℕ, Bool, false, List, [], ◌∷◌, ◌++◌, length, Option, Some, None}
 use Rattle.std.specs.Prelude.{nat_le, if◌then◌else◌, is_some, not, nat_eq}
 use Rattle.std.specs.Cmp.Lexicographic.{pointwise}
@@ -19,22 +19,22 @@ use Rattle.mt_sync.specs.declared.fault.TalkFault.TheVariants.{OutOfTurn, Confli
 use Rattle.mt_sync.specs.declared.fault.Side.{Side}
 use Rattle.mt_sync.specs.declared.fault.Side.TheVariants.{Caller, Answerer}
 
--- What an end waits for: the other's Have, or operations and Bye. The caller keeps the Have that it
--- answers at the end.
+-- What an end waits for: the peer's Have, or operations and Bye. The caller keeps the Have to which
+-- it replies at the end.
 pub data Turn : Type 0 where
   awaits_have : Side → Turn
   awaits_ops : Option Summary → Turn
   ended : Turn
   stopped : TalkFault → Turn
 
--- An end: its turn, the bytes that are in no whole frame yet, and the set of its editor's log, of
--- which there is none where the editor has failed.
+-- An end: its turn, the bytes of a frame that is not yet whole, and the set of its editor's log,
+-- none if the editor has failed.
 pub record End : Type 0 where
   pub turn : Turn
   pub rest : List ℕ
   pub set : Option LogMap
 
--- what becomes of an end, and what it sends
+-- the new end, and what it sends
 abbrev pub Received : Type 0
 Received = End × List ℕ
 
@@ -44,15 +44,16 @@ stop fault set = (record { turn = stopped fault; rest = []; set = set }, [])
 abbrev pub goes_on : Turn → Option LogMap → List ℕ → Received
 goes_on turn set reply = (record { turn = turn; rest = []; set = set }, reply)
 
--- what a set holds that a summary does not cover, and then Bye
+-- the operations of a set that a summary does not cover, and then Bye
 abbrev pub answer : LogMap → Summary → List ℕ
 answer set summary = ops_frames (lacking set summary) ++ frame_text bye_text
 
--- a Have has to fit a frame
+-- whether the Have of a summary fits a frame
 abbrev pub can_say : Summary → Bool
 can_say summary = nat_le (length (have_text summary)) longest_body
 
--- another operation stands under the dot of this one (operations are told apart by their texts)
+-- whether another operation is stored under the dot of this one (operations are compared by their
+-- texts)
 abbrev pub conflicts : Option Op → Op → Bool
 conflicts None o = false
 conflicts (Some p) o = not (pointwise nat_eq (op_text p) (op_text o))
@@ -60,7 +61,7 @@ conflicts (Some p) o = not (pointwise nat_eq (op_text p) (op_text o))
 abbrev pub with_op : LogMap → Op → LogMap
 with_op set o = if is_some (map.get set (op_dot o)) then set else map.insert set (op_dot o) o
 
--- Operations join a set one by one, up to the first whose dot names another one there.
+-- Operations are added to a set one by one, up to the first whose dot names another one there.
 abbrev pub joined : LogMap → List Op → LogMap × Option Dot
 joined set [] = (set, None)
 joined set (o ∷ list) = if conflicts (map.get set (op_dot o)) o then (set, Some (op_dot o)) else
@@ -70,12 +71,12 @@ abbrev pub taken : Turn → LogMap → Option Dot → Received
 taken turn set None = goes_on turn (Some set) []
 taken turn set (Some dot) = stop (Conflict dot) (Some set)
 
--- what operations do
+-- the effect of operations
 abbrev pub takes_ops : Turn → Option LogMap → List Op → Received
 takes_ops turn None list = stop Failed None
 takes_ops turn (Some set) list = taken turn (joined set list).0 (joined set list).1
 
--- the answerer's first reply: its Have, what the caller lacks, and Bye
+-- the answerer's first reply: its Have, the operations that the caller lacks, and Bye
 abbrev pub greets_back : Option LogMap → Summary → Received
 greets_back None summary = stop Failed None
 greets_back (Some set) summary =
@@ -83,12 +84,12 @@ greets_back (Some set) summary =
         (frame_text (have_text (summary_of set)) ++ answer set summary)
     else stop FrameTooLong (Some set)
 
--- the caller's reply to Bye: what the answerer lacks, and Bye
+-- the caller's reply to Bye: the operations that the answerer lacks, and Bye
 abbrev pub answers_back : Option LogMap → Summary → Received
 answers_back None summary = stop Failed None
 answers_back (Some set) summary = goes_on ended (Some set) (answer set summary)
 
--- what a message does, by turns
+-- the effect of a message in each turn
 abbrev pub receives_message : Turn → Message → Option LogMap → Received
 receives_message (awaits_have Caller) (have summary) set = goes_on (awaits_ops (Some summary)) set
     []
@@ -102,7 +103,7 @@ abbrev pub receives_read : Turn → Option Message → Option LogMap → Receive
 receives_read turn None set = stop BadMessage set
 receives_read turn (Some message) set = receives_message turn message set
 
--- what the body of a frame does
+-- the effect of the body of a frame
 unfoldable pub body_in : Turn → Option LogMap → List ℕ → Received
 body_in turn set body = receives_read turn (message_at body) set
 
@@ -114,7 +115,7 @@ front_in turn set bytes too_long = stop FrameTooLong set
 front_in turn set bytes (whole body rest) = body_in turn set body
 
 -- One more byte: a frame is read once its last byte is there. A byte after the end is out of turn,
--- and after a stop bytes are not looked at.
+-- and after a fault bytes are ignored.
 unfoldable pub byte_in : End → ℕ → Received
 byte_in end byte = by end.turn
   where
@@ -123,7 +124,7 @@ byte_in end byte = by end.turn
     by ended = stop OutOfTurn end.set
     by turn = front_in turn end.set (end.rest ++ byte ∷ []) (front_of (end.rest ++ byte ∷ []))
 
--- bytes one after another
+-- the effect of bytes, one after another
 abbrev pub receives : End → List ℕ → Received
 receives end [] = (end, [])
 receives end (byte ∷ bytes) = ((receives (byte_in end byte).0 bytes).0, (byte_in end byte).1

@@ -1,4 +1,4 @@
--- What a conversation over a reader and a writer reads, writes and answers.
+-- The bytes read and written by a conversation over a reader and a writer, and its result.
 use Rattle.std.specs.Prelude.{◌≡◌, ℕ, List, [], Option, Some, None, Result, true, false, ◌⊎◌, Ok}
 use Rattle.std.specs.Prelude.{Err}
 use Rattle.std.specs.Io.KnownBytes.{Appends, Consumes, IsAtEnd}
@@ -26,7 +26,7 @@ abbrev pub StopsBy : End → Option LogMap → TalkFault → Type 0
 StopsBy end set Memory = Unit {0}
 StopsBy end set fault = (end.turn ≡ stopped fault) × (end.set ≡ set)
 
--- what an answer says of what was heard
+-- what a result implies for what was received
 abbrev pub Outcome : Received → Option (List ℕ) → Option (List ℕ) → Option LogMap
     → Result (Unit {0}) SyncFault → Type 0
 Outcome t written written' set (Ok _) = (t.0.turn ≡ ended) × (t.0.set ≡ set)
@@ -36,8 +36,7 @@ Outcome t written written' set (Err fault.Ended) = IsOpen t.0.turn × (t.0.set �
 Outcome t written written' set (Err fault.Read) = IsOpen t.0.turn × (t.0.set ≡ set)
 Outcome t written written' set (Err fault.Write) = IsGoing t.0.turn × (t.0.set ≡ set)
 
--- what takes part in a conversation, before or after: a holder's set, what is left to be read, and
--- what was written
+-- the state of a participant: a holder's set, what is left to be read, and what was written
 pub record Conversant : Type 0 where
   pub set : Option LogMap
   pub read : Option (List ℕ)
@@ -46,8 +45,8 @@ pub record Conversant : Type 0 where
 abbrev pub conversant : Option LogMap → Option (List ℕ) → Option (List ℕ) → Conversant
 conversant set read written = record { set = set; read = read; written = written }
 
--- the bytes that were read, what was written of what they call for, what the answer says of them,
--- and what is left where memory ran out
+-- the bytes that were read, a prefix of the replies to them that was written, what the result
+-- implies for them, and what is left if memory ran out
 pub record Converses (start : End) (before after : Conversant)
     (result : Result (Unit {0}) SyncFault) : Type 0 where
   pub bytes : List ℕ
@@ -56,8 +55,8 @@ pub record Converses (start : End) (before after : Conversant)
   pub outcome : Outcome (receives start bytes) before.written after.written after.set result
   pub left : result ≡ Err (fault.Talk Memory) → IsLeft start bytes after.set
 
--- What a refusal says of the reader and the writer: which of them has failed, or that the input has
--- ended. A stop is the talk's own.
+-- What an error implies for the reader and the writer: which of them has failed, or that the input
+-- has ended. A talk fault implies nothing.
 abbrev pub Blames : {R W : Type 0} → (R → Option (List ℕ)) → Latch R → Latch W → SyncFault → Type 0
 Blames remaining reader writer fault.Read = reader.failed ≡ true
 Blames remaining reader writer fault.Write = writer.failed ≡ true
@@ -65,7 +64,7 @@ Blames remaining reader writer fault.Ended = (reader.failed ≡ false)
     × IsAtEnd (remaining reader.inner)
 Blames remaining reader writer (fault.Talk by) = Unit {0}
 
--- neither has failed
+-- neither latch has failed
 abbrev pub AreSound : {R W : Type 0} → Latch R → Latch W → Type 0
 AreSound reader writer = (reader.failed ≡ false) × (writer.failed ≡ false)
 
@@ -77,7 +76,7 @@ Begins log written mid = (set : LogMap) × ((log ≡ Some set)
     × ((can_say (summary_of set) ≡ true) × Appends written mid
     (frame_text (have_text (summary_of set)))))
 
--- why a caller did not come to read
+-- why a caller did not begin to read
 abbrev pub NotBegun : Option LogMap → Option (List ℕ) → Option (List ℕ)
     → Result (Unit {0}) SyncFault → Type 0
 NotBegun log written written' (Err (fault.Talk Memory)) = written' ≡ written
@@ -88,14 +87,14 @@ NotBegun log written written' (Err fault.Write) = (set : LogMap)
     × ((log ≡ Some set) × AppendsPrefix written written' (frame_text (have_text (summary_of set))))
 NotBegun log written written' _ = ⊥
 
--- what the beginning of a caller answers
+-- the result of beginning as a caller
 abbrev pub BeginsWith : {X : Type 0} → (X → Talking) → Option LogMap → Option (List ℕ)
     → Option (List ℕ) → Result X SyncFault → Type 0
 BeginsWith view log written written' (Ok x) = (view x
     ≡ record { turn = awaits_have Caller; rest = [] }) × Begins log written written'
 BeginsWith view log written written' (Err by) = NotBegun log written written' (Err by)
 
--- A caller writes its Have first; then, and as an answerer at once, the conversation goes on.
+-- A caller writes its Have first; then the conversation goes on, for an answerer at once.
 abbrev pub ConversesAs : Side → Conversant → Conversant → Result (Unit {0}) SyncFault → Type 0
 ConversesAs Answerer before after result = Converses (end_at (awaits_have Answerer) [] before.set)
     before after result
@@ -106,16 +105,16 @@ ConversesAs Caller before after result =
     × Converses (end_at (awaits_have Caller) [] before.set) (conversant before.set before.read mid)
         after result))
 
--- ---- operations out of bytes
+-- ---- taking operations out of bytes
 
--- what taking operations out of bytes answers and leaves
+-- the result of taking operations out of bytes
 abbrev pub TakesAll : Received → Result (Unit {0}) SyncFault → Option LogMap → Type 0
 TakesAll t (Ok _) new = (t.0.turn ≡ ended) × (t.0.set ≡ new)
 TakesAll t (Err (fault.Talk by)) new = StopsBy t.0 new by
 TakesAll t (Err fault.Ended) new = IsOpen t.0.turn × (t.0.set ≡ new)
 TakesAll t (Err _) new = ⊥
 
--- the one Have that bytes are
+-- the summary, if the message is a Have
 abbrev pub asked_in : Option Message → Option Summary
 asked_in (Some (have summary)) = Some summary
 asked_in (Some (ops list)) = None
@@ -126,7 +125,7 @@ abbrev pub asked_of : Option (List ℕ) → Option Summary
 asked_of (Some body) = asked_in (message_at body)
 asked_of None = None
 
--- what a summary in bytes lacks
+-- the operations of a set that the summary in these bytes lacks
 abbrev pub Lacks : {X : Type 0} → (X → List ℕ) → LogMap → List ℕ → Result X MessageFault → Type 0
 Lacks view set bytes (Ok out) = (summary : Summary)
     × ((asked_of (sole (front_of bytes)) ≡ Some summary) × (view out ≡ answer set summary))

@@ -1,4 +1,4 @@
--- The numbers of refusals (profile).
+-- The numbers of faults (profile).
 use Rattle.std.specs.Prelude.{ℕ}
 use Rattle.mt_sync.specs.declared.fault.TalkFault.{TalkFault}
 use Rattle.mt_sync.specs.declared.fault.TalkFault.TheVariants.{Memory, Conflict, Failed, BadMessage}

@@ -1,5 +1,5 @@
--- What joining operations to the set of an editor as a whole answers and leaves: the set does not
--- change where memory runs out.
+-- The result of joining operations to the set of an editor as a whole: if memory runs out the set
+-- does not change.
 use Rattle.std.specs.Prelude.{◌≡◌, ◌≢◌, List, Bool, true, false, Option, Some, None, Result, Ok}
 use Rattle.std.specs.Prelude.{Err}
 use Rattle.std.specs.FinMap as map

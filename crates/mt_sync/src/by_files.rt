@@ -1,4 +1,5 @@
-//! Swapping by bytes that are carried by hand: a Have, what it lacks, and the taking of that.
+//! An exchange by bytes that are carried as files: a Have, the operations that it lacks, and taking
+//! them.
 
 ghost use Rattle.std.specs.Prelude.{◌≡◌, [], None, IfErr};
 ghost use Rattle.mt_sync.specs.Conversation.{awaits_ops, receives};
@@ -16,8 +17,8 @@ use std::alloc::{Allocator, Global};
 use sync_framing::{FrameFault, sole_body};
 use sync_messages::{Message, MessageFault};
 
-/// One frame: the Have of the log's summary. Refused as `FrameTooLong` (40) where it does not fit a
-/// frame, and as `Memory` (0) where an allocation failed.
+/// One frame: the Have of the log's summary. Fails with `FrameTooLong` (40) if it does not fit a
+/// frame, and with `Memory` (0) if an allocation failed.
 pub fn have_bytes<A: Allocator + Clone, B: Allocator>(
     alloc: A,
     log: &Log<B>,
@@ -33,9 +34,9 @@ pub fn have_bytes<A: Allocator + Clone, B: Allocator>(
 }
 
 /// The operations of a log that the summary in `have` does not cover, as frames of Ops, and Bye.
-/// Refused as `FrameTooLong` (40) where the length at the front of `have` is over 8,388,608; else
-/// as `BadMessage` (38) where `have` is not exactly one frame with a Have; and as `Memory` (0)
-/// where an allocation failed.
+/// Fails with `FrameTooLong` (40) if the length at the front of `have` is over 8,388,608; otherwise
+/// with `BadMessage` (38) if `have` is not exactly one frame with a Have; and with `Memory` (0) if
+/// an allocation failed.
 pub fn lack_bytes<A: Allocator + Clone>(
     alloc: A,
     log: &Log<A>,
@@ -63,11 +64,11 @@ pub fn lack_bytes<A: Allocator + Clone>(
     }
 }
 
-/// Takes the operations of frames of Ops up to Bye, frame by frame. Refused as an answerer's
-/// `Talk::feed` is, which waits for operations: 40, 38, 39 (so too for a byte after Bye), 20, 17 or
-/// 0; and as `Ended` (49) where the bytes end before Bye. After a refusal the holder has its own
-/// operations and those before the fault; where an allocation failed while operations joined it has
-/// failed. `frames` is where the bytes are kept while they are read.
+/// Takes the operations of frames of Ops up to Bye, frame by frame. Fails as `Talk::feed` does for
+/// an answerer that waits for operations: 40, 38, 39 (also for a byte after Bye), 20, 17 or 0; and
+/// with `Ended` (49) if the bytes end before Bye. After an error the holder has its own operations
+/// and those before the fault; if an allocation failed while operations were added it has failed.
+/// `frames` allocates the bytes while they are read.
 pub fn take_ops<A: Allocator + Clone, H: OpStore<A>>(
     alloc: A,
     frames: Global,

@@ -13,20 +13,19 @@ use mt_opcodec::Latch;
 use std::alloc::{Allocator, Global};
 use std::io::{Read, Write};
 
-/// How many bytes are read at once.
+/// The number of bytes read at once.
 const PIECE: usize = 65_536;
 
-/// Reads and answers until the other end's Bye: a whole conversation, as the caller, who writes its
-/// summary first, or as the answerer. Nothing is read past the piece with that Bye, of at most
-/// 65,536 bytes, after which no byte may follow. The holder's operations have to lie in one log
-/// (`whole`), as an editor's always do, and those of a `LogBuilder` once `settle` was called.
-///
-/// Refused as the caller's `Talk::call` and each `Talk::feed` are; as `Read` (45) and `Write` (37)
-/// where the reader or the writer has failed, before or in this call; as `Ended` (49) where the
-/// input ends before the talk does, and at no other time. A latch that had failed is not asked and
-/// stays as it was; after `Ok` neither has failed. After a refusal the writer holds a prefix of the
-/// bytes that the conversation calls for, and the holder its own operations and those that came
-/// before; where an allocation failed while operations joined, the holder has failed.
+/// Reads and replies until the peer's Bye: a whole conversation, as the caller, who writes its
+/// summary first, or as the answerer. It reads pieces of up to 65,536 bytes, the last with Bye,
+/// after which no byte may follow. The holder's operations must be in one log (`whole`): those of
+/// an editor always are, those of a `LogBuilder` after `compact`. Fails as `Talk::call` (as the
+/// caller) and `Talk::feed` do; with `Read` (45) or `Write` (37) if the reader or the writer has
+/// failed, before or in this call; and with `Ended` (49) only if the input ends before the talk
+/// does. A latch that had failed is not used and stays as it was; after `Ok` neither has failed.
+/// After an error the writer has a prefix of the bytes of the conversation, and the holder its own
+/// operations and those before the fault; if an allocation failed while operations were added, the
+/// holder has failed.
 pub fn converse<A: Allocator + Clone, R: Read, W: Write, H: OpStore<A>>(
     alloc: A,
     frames: Global,
@@ -57,7 +56,7 @@ pub fn converse<A: Allocator + Clone, R: Read, W: Write, H: OpStore<A>>(
     }
 }
 
-// Begins as the caller: writes the frame of its summary.
+// Begins as the caller: writes the frame of the holder's summary.
 fn begin<A: Allocator + Clone, W: Write, H: OpStore<A>>(
     alloc: A,
     frames: Global,
@@ -84,7 +83,7 @@ fn begin<A: Allocator + Clone, W: Write, H: OpStore<A>>(
     }
 }
 
-// Reads and answers until the talk has ended.
+// Reads and replies until the talk has ended.
 fn hold_on<A: Allocator + Clone, R: Read, W: Write, H: OpStore<A>>(
     talk: &mut Talk<A>,
     holder: &mut H,

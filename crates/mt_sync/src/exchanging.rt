@@ -14,16 +14,15 @@ use mt_opcodec::Log;
 use std::alloc::Allocator;
 use sync_messages::{Summary, lacking};
 
-/// Swaps between two holders, editors or logs that grow, what each lacks, as a conversation does
-/// that the first one begins: each holds its own operations after it, and the other's under dots
-/// that it had not. So both hold the union of their operations, where that is a log; of two
-/// operations under one dot each keeps its own, which nobody is told, as in every conversation.
+/// Swaps what each of two holders, editors or `LogBuilder`s, lacks, as in a conversation that the
+/// first begins (`laws::conversations`). Afterwards each has its own operations, and the other's
+/// under dots that it had not. So both have the union, if the two agree; under a dot that names
+/// different operations each keeps its own and neither gets a report, as in every conversation.
 ///
-/// Refused, in this order, as `Failed` (20) where one of them has failed and as `FrameTooLong` (40)
-/// where the summary of one of them does not fit a frame: then both are unchanged. `Memory` (0)
-/// where an allocation failed: then each is unchanged, has all that it lacked, or has failed.
-/// `Conflict` (17) is never answered. What it does is what a conversation does
-/// (`laws::conversations`).
+/// Fails, in this order, with `Failed` (20) if one of them has failed and with `FrameTooLong` (40)
+/// if the summary of one does not fit a frame: then both are unchanged. With `Memory` (0) if an
+/// allocation failed: then each is unchanged, has all that it lacked, or has failed. Never with
+/// `Conflict` (17).
 pub fn exchange<A: Allocator + Clone, H: OpStore<A>, K: OpStore<A>>(
     alloc: A,
     caller: &mut H,
@@ -40,8 +39,7 @@ pub fn exchange<A: Allocator + Clone, H: OpStore<A>, K: OpStore<A>>(
     take_some(&alloc, answerer, for_answerer)
 }
 
-// What a holder lacks of another one's operations, where its summary, which tells that, fits a
-// frame.
+// The operations of another holder that a holder lacks, if its own summary fits a frame.
 fn lacks_of<A: Allocator + Clone, H: OpStore<A>, K: OpStore<A>>(
     alloc: &A,
     holder: &mut H,
@@ -69,7 +67,7 @@ fn lacks_of<A: Allocator + Clone, H: OpStore<A>, K: OpStore<A>>(
     missing_of(alloc, own, others)
 }
 
-// What a log lacks of another one's operations.
+// The operations of another log that a log lacks.
 fn missing_of<A: Allocator + Clone>(
     alloc: &A,
     own: &Log<A>,
@@ -91,7 +89,7 @@ fn missing_of<A: Allocator + Clone>(
     }
 }
 
-// Takes operations, if there are any, into a holder that has not failed.
+// Adds operations, if there are any, to a holder that has not failed.
 fn take_some<A: Allocator + Clone, H: OpStore<A>>(
     alloc: &A,
     holder: &mut H,

@@ -8,31 +8,31 @@ use mt_stamp::Dot;
 use std::alloc::{AllocError, AllocFailed};
 use thiserror::Error;
 
-/// Which end of a conversation: the one that begins, or the other one.
+/// The two ends of a conversation: the one that begins, and the other one.
 #[derive(Clone, Copy, Debug, PartialEq, Eq)]
 pub enum Side {
-    /// Tells its summary first.
+    /// Sends its summary first.
     Caller,
     /// Waits for the caller's summary.
     Answerer,
 }
 
-/// Why a talk stops. Each refusal has a number that never changes.
+/// Why a talk stops. Each fault has a number that never changes.
 #[derive(Clone, Copy, Debug, PartialEq, Eq, Error)]
 pub enum TalkFault {
-    /// A growth was refused.
+    /// An allocation failed.
     #[error("out of memory")]
     Memory,
-    /// An operation came whose dot names another one in the log.
+    /// The dot of a received operation names another one in the log.
     #[error("two operations have one dot")]
     Conflict(Dot),
     /// The holder has failed, and its log was needed.
     #[error("the editor has failed")]
     Failed,
-    /// The body of a frame is the text of no message.
+    /// The body of a frame is not the text of a message.
     #[error("not a message")]
     BadMessage,
-    /// A message that nobody waits for, or a byte after the end.
+    /// A message that is not due, or a byte after the end.
     #[error("a message out of turn")]
     OutOfTurn,
     /// A length at the front of a frame is over 8,388,608, or the own summary does not fit a frame.
@@ -41,7 +41,7 @@ pub enum TalkFault {
 }
 
 impl TalkFault {
-    /// The refusal's number: 0, 17, 20, 38, 39 or 40.
+    /// The fault's number: 0, 17, 20, 38, 39 or 40.
     pub fn number(&self) -> u8
         ensures { result ≡ talk_number self.now }
     {
@@ -72,8 +72,8 @@ impl<T: Drop> From<AllocFailed<T>> for TalkFault {
     }
 }
 
-/// Why a conversation over a reader and a writer, or the taking of operations out of bytes, did not
-/// come to its end.
+/// Why a conversation over a reader and a writer, or taking operations out of bytes, did not
+/// complete.
 #[derive(Clone, Copy, Debug, PartialEq, Eq, Error)]
 pub enum SyncFault {
     /// The talk stopped.
@@ -91,7 +91,7 @@ pub enum SyncFault {
 }
 
 impl SyncFault {
-    /// The refusal's number: that of the talk, 37, 45 or 49.
+    /// The fault's number: that of the talk, 37, 45 or 49.
     pub fn number(&self) -> u8
         ensures { result ≡ number_of self.now }
     {

@@ -1,4 +1,4 @@
-//! Who holds operations.
+//! Holders of operations.
 
 ghost use Rattle.std.specs.Prelude.{◌≡◌, ◌↔◌, Bool, true, Option, Some, None, IsTrue, OnOk, Ok};
 ghost use Rattle.std.specs.Option.{option_copied};
@@ -14,12 +14,12 @@ use mt_opcodec::Log;
 use mt_replica::{Editor, EditorCore, Sessions};
 use std::alloc::{AllocError, Allocator};
 
-/// Whoever has a log: a log itself, a draft or an editor.
+/// A holder with a log to lend: a log itself, a draft or an editor.
 pub trait HasLog<A: Allocator> {
-    /// The set of its operations; none where it has failed.
+    /// The set of its operations; none if it has failed.
     ghost held: { Self → Option LogMap };
 
-    /// Its log; `None` where it has failed.
+    /// Its log; `None` if it has failed.
     fn log(&self) -> Option<&Log<A>>
         ensures { option_copied result ≡ held self.now };
 }
@@ -40,13 +40,13 @@ impl<A: Allocator, S: Sessions> HasLog<A> for EditorCore<A, S> {
     }
 }
 
-/// Whoever takes part in a conversation: it lends the log that it has, and takes the operations of
-/// a message. An editor, or a log that grows.
+/// A participant of a conversation, which lends its log and takes the operations of a message: an
+/// editor or a `LogBuilder`.
 pub trait OpStore<A: Allocator> {
-    /// The set of its operations; none where it has failed.
+    /// The set of its operations; none if it has failed.
     ghost held: { Self → Option LogMap };
 
-    /// The name of its editor, which nothing here changes.
+    /// The name of its editor, which no method changes.
     ghost named: { Self → Name };
 
     /// Whether it has failed.
@@ -56,8 +56,8 @@ pub trait OpStore<A: Allocator> {
     /// Whether its operations are in one log, which it can lend.
     ghost whole: { Self → Bool };
 
-    /// Brings its operations into one log. `AllocError` where they were not in one and an
-    /// allocation failed: then it is as it was, or has failed.
+    /// Joins its operations into one log. Fails with `AllocError` only if they were not in one log
+    /// and an allocation failed: then the holder is unchanged, or has failed.
     fn compact(&mut self) -> Result<(), AllocError>
         ensures whole { OnOk result (whole self.new ≡ true) }
         ensures held { OnOk result (held self.new ≡ held self.old) }
@@ -65,15 +65,15 @@ pub trait OpStore<A: Allocator> {
         ensures settled { whole self.old ≡ true → result ≡ Ok tt }
         ensures name { named self.new ≡ named self.old };
 
-    /// Its log, where its operations are in one; `None` where it has failed.
+    /// Its log, given that its operations are in one log; `None` if it has failed.
     fn compacted_log(&self) -> Option<&Log<A>>
         requires whole { whole self.now ≡ true }
         ensures log { option_copied result ≡ held self.now };
 
-    /// Takes operations that rise by dot out of a list, up to the first whose dot names another one
-    /// there; what is left of the list is nobody's. Refused as `Failed` (20) where it has failed,
-    /// as `Conflict` (17) with that dot, and as `Memory` (0) where an allocation failed: then it
-    /// has failed.
+    /// Takes operations that rise by dot out of a list, up to the first one whose dot names another
+    /// one in its log; what the list holds afterwards is unspecified. Fails with `Failed` (20) if
+    /// it has failed, with `Conflict` (17) and that dot, and with `Memory` (0) if an allocation
+    /// failed: then it has failed.
     fn take_all(&mut self, alloc: &A, ops: &mut Vec<Op<A>, A>) -> Result<(), TalkFault>
         requires rising { AreLogged ops.old.items }
         ensures takes { TakesIn (held self.old) ops.old.items result (held self.new) }

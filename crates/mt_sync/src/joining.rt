@@ -1,4 +1,4 @@
-//! Operations that join the log of an editor as a whole.
+//! Joining operations to the log of an editor as a whole.
 
 ghost use Rattle.std.specs.Prelude.{◌≡◌, ◌≢◌, ◌∷◌, IfOk, OnOk, OnErr, Some};
 ghost use Rattle.mt_opcodec.specs.LogValue.{AreLogged, log_of};
@@ -17,19 +17,19 @@ use mt_stamp::Dot;
 use std::alloc::{AllocError, Allocator};
 use std::mem;
 
-// Whether a log or one of others, every two of which agree, has another operation under this one's
-// dot.
+// Whether this log or one of the others has another operation under this one's dot. Every two of
+// the logs agree.
 fn have_another<A: Allocator>(log: &Log<A>, others: &[Log<A>], op: &Op<A>) -> bool
     requires agree { PairsAgree (log.now ∷ others.now) }
     ensures { HasConflict (union_all (log.now ∷ others.now)) op.now result }
 {
-    // for the proof: that what a log has are operations
+    // for the proof: that the operations of the log are valid
     let _ = log.runs();
     if log.has_another(op) {
         return true;
     }
     for other in others {
-        // for the proof: the same
+        // for the proof: that the operations of this log are valid
         let _ = other.runs();
         if other.has_another(op) {
             return true;
@@ -38,8 +38,9 @@ fn have_another<A: Allocator>(log: &Log<A>, others: &[Log<A>], op: &Op<A>) -> bo
     false
 }
 
-// Cuts operations, which rise by dot, before the first whose dot names another one in a log or in
-// others, every two of which agree, and gives that dot: what is left agrees with them.
+// Cuts operations, which rise by dot, before the first whose dot names another one in one of the
+// logs, and returns that dot: the operations that are left agree with the logs. Every two of the
+// logs agree.
 pub(crate) fn cut_at_conflict<A: Allocator>(
     log: &Log<A>,
     others: &[Log<A>],
@@ -73,7 +74,7 @@ pub(crate) fn taken_out<A: Allocator + Clone>(
     Ok(mem::replace(ops, Vec::new(alloc.clone()?)))
 }
 
-// The log of operations that rise by dot, taken out of their list.
+// A log of the operations of a list, which rise by dot, taken out of it.
 pub(crate) fn log_of<A: Allocator + Clone>(
     alloc: &A,
     ops: &mut Vec<Op<A>, A>,
@@ -88,7 +89,7 @@ pub(crate) fn log_of<A: Allocator + Clone>(
     }
 }
 
-// The editor with this log, or as it was where memory ran out.
+// Gives the editor this log; if memory runs out the editor is unchanged.
 fn replace<A: Allocator + Clone>(
     alloc: &A,
     editor: &mut Editor<A>,
@@ -107,9 +108,9 @@ fn replace<A: Allocator + Clone>(
     }
 }
 
-// The operations of a message, which rise by dot, join the editor's log, up to the first whose dot
-// names another one there. Those before it are joined as a whole, replica by replica, and the
-// session is worked out once.
+// Joins the operations of a message, which rise by dot, to the editor's log, up to the first whose
+// dot names another one there. They are joined as a whole, replica by replica, and the session is
+// computed once.
 pub(crate) fn join_ops<A: Allocator + Clone>(
     alloc: &A,
     editor: &mut Editor<A>,

@@ -1,4 +1,4 @@
-//! A log that grows by the operations of messages.
+//! A log to which the operations of messages are added.
 
 ghost use Rattle.std.specs.Prelude.{◌≡◌, ◌≢◌, ◌≤◌, ◌↔◌, ◌++◌, ◌∷◌, [], length, true, false, IfOk};
 ghost use Rattle.std.specs.Prelude.{IfErr, IsErrOf, OnOk, OnErr, Ok, Some, None};
@@ -16,12 +16,12 @@ use mt_opcodec::Log;
 use std::alloc::{AllocError, Allocator, Global};
 use std::marker::Model;
 
-/// A log that grows by the operations of messages, in however many messages they come: seen as
-/// their set, and as nothing where it has failed, as it has once an allocation failed.
+/// A log to which the operations of messages are added, in any number of messages. Its value is the
+/// set of its operations, or none once an allocation has failed.
 ///
-/// What a message brings is kept beside what is there, and joined with what came last where that is
-/// no more than twice as much: so n operations are moved log n times each, and what is there is
-/// moved once, when it is asked for.
+/// The operations of a message are kept as a separate log, and joined with the last one if that is
+/// no more than twice as long. So each of n new operations is moved log n times, and those of the
+/// first log once, when the whole log is requested.
 #[derive(Drop)]
 pub struct LogBuilder<A: Allocator = Global> {
     logs: Vec<Log<A>, A>,
@@ -41,7 +41,7 @@ impl<A: Allocator> Model for LogBuilder<A> {
     ghost invariant = { λ g. PairsAgree g.logs.items };
 }
 
-// Puts a log behind others. Where memory runs out none is left.
+// Appends a log to others. If memory runs out none is left.
 fn push_log<A: Allocator>(logs: &mut Vec<Log<A>, A>, log: Log<A>) -> Result<(), AllocError>
     ensures ok { OnOk result (logs.new.items ≡ logs.old.items ++ log ∷ []) }
     ensures none_left { OnErr result (logs.new.items ≡ []) }
@@ -55,8 +55,8 @@ fn push_log<A: Allocator>(logs: &mut Vec<Log<A>, A>, log: Log<A>) -> Result<(), 
     }
 }
 
-// Whether a log is to be joined with the last of others: where that is no more than twice as long,
-// or all are to be one.
+// Whether a log is to be joined with the last of others: if that is no more than twice as long, or
+// all are to become one.
 fn goes_with_last<A: Allocator>(logs: &[Log<A>], log: &Log<A>, all: bool) -> bool
     ensures { all ≡ true → result ≡ false → logs.now ≡ [] }
 {
@@ -66,8 +66,8 @@ fn goes_with_last<A: Allocator>(logs: &[Log<A>], log: &Log<A>, all: bool) -> boo
     }
 }
 
-// Puts a log behind others with which it agrees, joined with the last of them while it goes with
-// that. Where memory runs out none is left.
+// Appends a log to others with which it agrees, joined with the last of them as long as
+// `goes_with_last` holds. If memory runs out none is left.
 fn put_behind<A: Allocator + Clone>(
     logs: &mut Vec<Log<A>, A>,
     more: Log<A>,
@@ -95,8 +95,7 @@ fn put_behind<A: Allocator + Clone>(
     push_log(logs, last)
 }
 
-// Joins logs of which every two agree into one, where there is any. Where memory runs out none is
-// left.
+// Joins logs of which every two agree into one, if there are any. If memory runs out none is left.
 fn join_into_one<A: Allocator + Clone>(logs: &mut Vec<Log<A>, A>) -> Result<(), AllocError>
     requires agree { PairsAgree logs.old.items }
     ensures agree { PairsAgree logs.new.items }
@@ -115,7 +114,7 @@ fn join_into_one<A: Allocator + Clone>(logs: &mut Vec<Log<A>, A>) -> Result<(), 
 }
 
 impl<A: Allocator + Clone> LogBuilder<A> {
-    /// A log that has not grown yet. Refused only where an allocation failed.
+    /// A builder that begins with this log. The only error is a failed allocation.
     pub fn new(alloc: A, log: Log<A>) -> Result<Self, AllocError>
         ensures { IfOk result (λ growing. growing ≡ record { set = Some log; whole = true }) }
     {
@@ -124,8 +123,8 @@ impl<A: Allocator + Clone> LogBuilder<A> {
         Ok(LogBuilder { logs })
     }
 
-    /// The log that it has grown to. Refused as `Failed` (20) where it has failed, and as `Memory`
-    /// (0) where an allocation failed.
+    /// The log with all operations added. Fails with `Failed` (20) if the builder has failed, and
+    /// with `Memory` (0) if an allocation failed.
     pub fn into_log(self) -> Result<Log<A>, TalkFault>
         ensures ok { IfOk result (λ log. self.set ≡ Some log) }
         ensures failed { IsErrOf result TalkFault.Failed ↔ (self.set ≡ None) }
@@ -173,9 +172,9 @@ impl<A: Allocator + Clone> OpStore<A> for LogBuilder<A> {
     }
 }
 
-// The operations of a message, which rise by dot, join logs of which every two agree, up to the
-// first whose dot names another one there. Where memory runs out no log is left, as where there was
-// none.
+// Adds the operations of a message, which rise by dot, to logs of which every two agree, up to the
+// first one whose dot names another one there. If memory runs out no log is left. Fails with
+// `Failed` if there was none.
 fn take_all_in_logs<A: Allocator + Clone>(
     alloc: &A,
     logs: &mut Vec<Log<A>, A>,

@@ -1,4 +1,4 @@
-//! What an end replies.
+//! The replies of an end.
 
 ghost use Rattle.std.specs.Prelude.{◌≡◌, ◌++◌, OnOk};
 ghost use Rattle.sync_framing.specs.Frames.{frame_text};
@@ -15,7 +15,7 @@ use std::alloc::{AllocError, Allocator};
 use sync_framing::put_frame;
 use sync_messages::{Message, MessageFault, Summary, lacking, put_ops_frames};
 
-// Appends the frame of the log's Have.
+// Appends the frame of a Have with the log's summary.
 pub(crate) fn put_have<A: Allocator + Clone, B: Allocator>(
     alloc: &A,
     log: &Log<B>,
@@ -38,7 +38,7 @@ pub(crate) fn put_have<A: Allocator + Clone, B: Allocator>(
     }
 }
 
-// Appends what the summary lacks, and Bye.
+// Appends the operations of the log that the summary does not cover, and Bye.
 pub(crate) fn put_answer<A: Allocator + Clone, B: Allocator>(
     alloc: &A,
     log: &Log<A>,

@@ -1,4 +1,4 @@
-//! Operations that an editor takes.
+//! Taking operations into an editor.
 
 ghost use Rattle.std.specs.Prelude.{◌≡◌, ◌≢◌, ◌∷◌, [], None};
 ghost use Rattle.mt_opcodec.specs.LogValue.{AreLogged};
@@ -11,7 +11,7 @@ use mt_op::Op;
 use mt_replica::{Editor, EditorFault};
 use std::alloc::Allocator;
 
-// Why a message stops at an operation that an editor refuses to take.
+// The talk fault of an editor fault.
 fn refusal_of(fault: EditorFault) -> TalkFault
     ensures { result ≡ refusal_of fault }
 {
@@ -22,7 +22,7 @@ fn refusal_of(fault: EditorFault) -> TalkFault
     }
 }
 
-// The editor takes one operation.
+// Takes one operation into the editor.
 fn take_one<A: Allocator + Clone>(editor: &mut Editor<A>, op: Op<A>) -> Result<(), TalkFault>
     ensures takes { TakesIn editor.old.log (op ∷ []) result editor.new.log }
     ensures name { editor.new.name ≡ editor.old.name }
@@ -30,7 +30,7 @@ fn take_one<A: Allocator + Clone>(editor: &mut Editor<A>, op: Op<A>) -> Result<(
     let Some(log) = editor.log() else {
         return Err(TalkFault::Failed);
     };
-    // for the proof: that each is an operation, the new one and those of the log
+    // for the proof: that the new operation and those of the log are valid
     let (_dot, _runs) = (op.dot(), log.runs());
     match editor.take(op) {
         Ok(_taken) => Ok(()),
@@ -38,7 +38,8 @@ fn take_one<A: Allocator + Clone>(editor: &mut Editor<A>, op: Op<A>) -> Result<(
     }
 }
 
-// The editor takes operations one by one, up to the first whose dot names another one in its log.
+// Takes operations into the editor one by one, up to the first whose dot names another one in its
+// log.
 fn take_each<A: Allocator + Clone>(
     editor: &mut Editor<A>,
     ops: Vec<Op<A>, A>,
@@ -56,9 +57,9 @@ fn take_each<A: Allocator + Clone>(
     Ok(())
 }
 
-// The operations of a message, which rise by dot, join the editor's log, up to the first whose dot
-// names another one there: one by one where that is less work, else as a whole. Where memory runs
-// out the editor has failed, as after a take that was refused memory.
+// Takes the operations of a message, which rise by dot, into the editor, up to the first whose dot
+// names another one in its log: one by one if that is less work, and otherwise as a whole. If
+// memory runs out the editor has failed, as after a single take that runs out of memory.
 pub(crate) fn take_all_in_editor<A: Allocator + Clone>(
     alloc: &A,
     editor: &mut Editor<A>,

@@ -23,11 +23,11 @@ use sync_framing::{FrameFault, Unread};
 use sync_messages::laws::texts;
 use sync_messages::{Message, MessageFault};
 
-/// One end of a conversation, which reads the other end's bytes in pieces that are cut anywhere and
-/// answers what to send back.
+/// One end of a conversation, which reads the peer's bytes in pieces that are cut anywhere and
+/// returns what to send back.
 ///
-/// The caller tells its summary. The answerer answers with its own, the operations that the caller
-/// lacks, and Bye. The caller takes those operations and answers Bye with the operations that the
+/// The caller sends its summary. The answerer sends its own summary, the operations that the caller
+/// lacks, and Bye. The caller takes those operations, and at Bye it sends the operations that the
 /// answerer lacks, and Bye; then it has ended. The answerer takes those, and has ended at Bye.
 #[derive(Drop)]
 pub struct Talk<A: Allocator = Global> {
@@ -47,7 +47,7 @@ impl<A: Allocator> Model for Talk<A> {
 }
 
 impl<A: Allocator + Clone> Talk<A> {
-    // A talk that waits for this and has read nothing.
+    // A talk that waits for this message and has read nothing.
     pub(crate) fn waiting(alloc: A, frames: Global, turn: Turn<A>) -> Talk<A>
         requires open { IsOpen (turn_of turn) }
         ensures { result ≡ record { turn = turn_of turn; rest = [] } }
@@ -60,9 +60,9 @@ impl<A: Allocator + Clone> Talk<A> {
     }
 
     /// The caller's end, and the bytes that begin the conversation: the frame of its summary.
-    /// `frames` is where the bytes of a frame that is not whole are kept. Refused, in this order,
-    /// as `Failed` (20) where the holder has failed and as `FrameTooLong` (40) where its summary
-    /// does not fit a frame; as `Memory` (0) where an allocation failed.
+    /// `frames` allocates the bytes of a frame that is not yet whole. Fails, in this order, with
+    /// `Failed` (20) if the holder has failed and with `FrameTooLong` (40) if its summary does not
+    /// fit a frame; with `Memory` (0) if an allocation failed.
     pub fn call<H: HasLog<A>>(
         alloc: A,
         frames: Global,
@@ -79,36 +79,30 @@ impl<A: Allocator + Clone> Talk<A> {
         Ok((talk, out))
     }
 
-    /// The answerer's end, before it has read anything. Takes no memory.
+    /// The answerer's end, before it has read anything. Allocates nothing.
     pub fn answer(alloc: A, frames: Global) -> Talk<A>
         ensures { result ≡ record { turn = awaits_have Side.Answerer; rest = [] } }
     {
         Talk::waiting(alloc, frames, Turn::AwaitsHave(Side::Answerer))
     }
 
-    /// Whether the conversation has come to its end: the other end's Bye was read, and answered
-    /// where that is this end's to do. A talk that has met a fault has not ended.
+    /// Whether the conversation has ended: the peer's Bye was read, and, on the caller's end,
+    /// replied to. A talk with a fault has not ended.
     pub fn ended(&self) -> bool
         ensures { IsTrue result ↔ (self.now.turn ≡ ended) }
     {
         matches!(self.turn, Turn::Ended)
     }
 
-    /// Reads a piece of the other end's bytes, and answers the bytes to send back. Operations join
-    /// the holder's log frame by frame. An editor takes those of a frame one by one where the log
-    /// has at least 16 times as many, and where each of them has a greater number than those of its
-    /// replica there; so such a frame costs what it brings. Others join as a whole: the editor is
-    /// then made anew of its log, and counts its joins from 0. A log that grows puts those of a
-    /// frame behind those that it has.
-    ///
-    /// Refused as `OutOfTurn` (39) after a fault, and after the end for a piece that is not empty.
-    /// Then frame by frame: `FrameTooLong` (40) where its length is over 8,388,608, before the body
-    /// is looked at; `BadMessage` (38) where the body is no message; `OutOfTurn` (39) where nobody
-    /// waits for that message; `Failed` (20) where the holder has failed and its log is needed;
-    /// `Conflict` (17) where an operation's dot names another one in the log; `FrameTooLong` (40)
-    /// where the own summary does not fit a frame. `Memory` (0) where an allocation failed. After a
-    /// fault the holder has its own operations and those before the fault, and the talk answers 39
-    /// from then on; where an allocation failed while operations joined, the holder has failed.
+    /// Reads a piece of the peer's bytes, and returns the bytes to send back. The operations of
+    /// each frame are added to the holder's log. Fails with `OutOfTurn` (39) after a fault, and
+    /// after the end if the piece is not empty; then frame by frame: `FrameTooLong` (40) if its
+    /// length is over 8,388,608, before its body is read; `BadMessage` (38) if the body is not a
+    /// message; `OutOfTurn` (39) if that message is not due; `Failed` (20) if the holder has failed
+    /// and its log is needed; `Conflict` (17) if an operation's dot names another one in the log;
+    /// `FrameTooLong` (40) if the own summary does not fit a frame. `Memory` (0) if an allocation
+    /// failed. After a fault the holder has its own operations and those before the fault, or has
+    /// failed if an allocation failed while operations were added.
     pub fn feed<H: OpStore<A>>(
         &mut self,
         holder: &mut H,
@@ -135,7 +129,7 @@ impl<A: Allocator + Clone> Talk<A> {
     }
 }
 
-// Hears one piece, and gives the replies.
+// Receives one piece, and returns the replies.
 fn receive_all<A: Allocator + Clone, H: OpStore<A>>(
     alloc: &A,
     turn: &mut Turn<A>,
@@ -157,7 +151,7 @@ fn receive_all<A: Allocator + Clone, H: OpStore<A>>(
     }
 }
 
-// Hears one piece, and appends the replies.
+// Receives one piece, and appends the replies.
 fn receive<A: Allocator + Clone, H: OpStore<A>>(
     alloc: &A,
     turn: &mut Turn<A>,
@@ -181,7 +175,7 @@ fn receive<A: Allocator + Clone, H: OpStore<A>>(
     }
 }
 
-// The same, where it reads frames.
+// Receives the frames that one piece completes, and appends the replies.
 fn receive_frames<A: Allocator + Clone, H: OpStore<A>>(
     alloc: &A,
     turn: &mut Turn<A>,
@@ -212,7 +206,7 @@ fn receive_frames<A: Allocator + Clone, H: OpStore<A>>(
     }
 }
 
-// No byte may follow the end.
+// Fails if bytes follow the end.
 fn end_of_turn(is_last: bool) -> Result<(), TalkFault>
     ensures { result ≡ over_at is_last }
 {
@@ -248,7 +242,7 @@ fn take_body<A: Allocator + Clone, H: OpStore<A>>(
         → StaysOrFails (H.held holder.old) (H.held holder.new)) }
     ensures name { H.named holder.new ≡ H.named holder.old }
 {
-    // what is read is a message
+    // for the proof: that what is read is a message
     are_bytes(body);
     texts();
     match Message::read(alloc.clone()?, body) {
@@ -258,12 +252,12 @@ fn take_body<A: Allocator + Clone, H: OpStore<A>>(
     }
 }
 
-// What a slice of bytes holds.
+// Every byte of a slice is below 256.
 fn are_bytes(bytes: &[u8])
     ensures { (i : ℕ) → slice_index bytes.now i < 256 }
 {}
 
-// What a message does, by turns.
+// Receives a message in this turn.
 fn take_message<A: Allocator + Clone, H: OpStore<A>>(
     alloc: &A,
     turn: &mut Turn<A>,

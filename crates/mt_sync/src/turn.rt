@@ -1,4 +1,4 @@
-//! What an end waits for.
+//! The turn of an end: what it waits for.
 
 ghost use Rattle.std.specs.Prelude.{◌↔◌, IsTrue};
 ghost use Rattle.mt_sync.specs.Feeding.{turn_of, IsOpen, HasStopped};
@@ -7,12 +7,12 @@ use crate::fault::{Side, TalkFault};
 use std::alloc::Allocator;
 use sync_messages::Summary;
 
-// What an end waits for.
+// What an end waits for, or how it has ended.
 #[derive(Drop)]
 pub(crate) enum Turn<A: Allocator> {
-    // The other end's Have.
+    // The peer's Have.
     AwaitsHave(Side),
-    // Operations or Bye. The caller keeps the Have that it answers at the end.
+    // Operations or Bye. The caller keeps the Have to which it replies at the end.
     AwaitsOps(Option<Summary<A>>),
     Ended,
     Stopped(TalkFault),
@@ -26,7 +26,7 @@ impl<A: Allocator> Turn<A> {
         matches!(self, Turn::AwaitsHave(_) | Turn::AwaitsOps(_))
     }
 
-    // Whether it has met a fault.
+    // Whether it has stopped by a fault.
     pub(crate) fn has_stopped(&self) -> bool
         ensures { IsTrue result ↔ HasStopped (turn_of self.now) }
     {

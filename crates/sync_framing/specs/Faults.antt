@@ -1,4 +1,4 @@
--- The numbers of refusals (profile).
+-- The numbers of faults (profile).
 use Rattle.std.specs.Prelude.{ℕ}
 use Rattle.sync_framing.specs.declared.FrameFault.{FrameFault}
 use Rattle.sync_framing.specs.declared.FrameFault.TheVariants.{Memory, TooLong}

@@ -1,11 +1,11 @@
--- What holds of frames.
+-- Laws of frames.
 use Rattle.std.specs.Prelude.{◌≡◌, ℕ, ◌<◌, ◌≤◌, ◌^◌, List, ◌∷◌, ◌++◌, length, slice_index}
 use Rattle.std.specs.Int.{w32, to_be_bytes}
 use Rattle.sync_framing.specs.Frames.{longest_body, frame_text, cut_short, too_long, whole}
 use Rattle.sync_framing.specs.Frames.{front_of}
 
--- A frame at the front of bytes is what is read, from its last byte on and not before; nothing else
--- is, and a length over the longest is refused.
+-- A frame at the front of bytes is read, from its last byte on and not before; nothing else is
+-- read, and a length over the greatest is an error.
 pub record FramesAreRead : Type 0 where
   pub found : (body rest : List ℕ) → length body ≤ longest_body → front_of (frame_text body ++ rest)
       ≡ whole body rest

@@ -1,4 +1,4 @@
--- Bytes that a codec and its buffer hold and that are in no frame yet.
+-- The bytes of a codec and its buffer that are not yet part of a frame.
 use Rattle.std.specs.IoError.{error_kind}
 use Rattle.std.specs.declared.io.Error.{Error}
 use Rattle.std.specs.declared.io.ErrorKind.TheVariants.{InvalidData}
@@ -15,7 +15,7 @@ use Rattle.sync_framing.specs.declared.Body.{Body}
 use Rattle.sync_framing.specs.declared.FrameFault.{FrameFault}
 use Rattle.sync_framing.specs.declared.FrameFault.TheVariants.{Memory, TooLong}
 
--- a head that the codec has taken from the buffer counts as unread
+-- a frame's head that the codec has taken from the buffer counts as unread
 abbrev pub unread_in : DecodeState → List ℕ → List ℕ
 unread_in Head bytes = bytes
 unread_in (Data n) bytes = to_be_bytes w32 n ++ bytes
@@ -31,7 +31,7 @@ pub record IsFraming (c : LengthDelimitedCodec) : Type 0 where
   pub layout : codec_layout c ≡ default_layout
   pub state : FitsState c.state
 
--- what taking the next body answers over these bytes, and what it leaves
+-- the result of taking the next body from these bytes, and the bytes left
 abbrev pub TakesBody : List ℕ → Result (Option Body) FrameFault → List ℕ → Type 0
 TakesBody old (Ok (Some body)) new = (front_of old ≡ whole body.bytes.items new)
     × (body.is_last ≡ (length new == 0))
@@ -39,7 +39,7 @@ TakesBody old (Ok None) new = (front_of old ≡ cut_short) × (new ≡ old)
 TakesBody old (Err TooLong) new = (front_of old ≡ too_long) × (new ≡ old)
 TakesBody old (Err Memory) new = Unit {0}
 
--- the codec's refusals, but for want of memory, are those of a length
+-- every error of the codec that is not out of memory is that of a length
 abbrev pub IsTooLong : Error → FrameFault → Type 0
 IsTooLong e TooLong = error_kind e ≡ InvalidData
 IsTooLong e Memory = error_kind e ≢ InvalidData

@@ -1,5 +1,5 @@
-//! Frames out of bytes that come in pieces: a body after its length in 4 bytes, the highest first,
-//! of at most 8,388,608 bytes.
+//! Frames from bytes that arrive in pieces: a body after its big-endian length in 4 bytes, of at
+//! most 8,388,608 bytes.
 //!
 //! ```rust
 //! use sync_framing::{Unread, put_frame};
@@ -21,9 +21,9 @@
 //! }
 //! ```
 //!
-//! Frames are taken by tokio_util's length-delimited codec out of a buffer of the crate `bytes`.
-//! The codec decodes out of a buffer on `Global` only; so its growth cannot be refused by a test's
-//! allocator.
+//! Frames are decoded by tokio_util's length-delimited codec from a buffer of the crate `bytes`.
+//! The codec decodes only from a buffer on `Global`; so a test's allocator cannot make its
+//! allocations fail.
 #![tactic(auto)]
 
 pub mod laws;
@@ -40,10 +40,10 @@ use std::marker::Model;
 use thiserror::Error;
 use tokio_util::codec::{Decoder, LengthDelimitedCodec};
 
-/// Why no frame is taken. Each refusal has a number that never changes.
+/// Why a frame cannot be read. Each fault has a number that never changes.
 #[derive(Clone, Copy, Debug, PartialEq, Eq, Error)]
 pub enum FrameFault {
-    /// A growth was refused.
+    /// An allocation failed.
     #[error("out of memory")]
     Memory,
     /// The length at the front is over 8,388,608.
@@ -52,7 +52,7 @@ pub enum FrameFault {
 }
 
 impl FrameFault {
-    /// The refusal's number: 0 or 40.
+    /// The fault's number: 0 or 40.
     pub fn number(&self) -> u8
         ensures { result ≡ number_of self.now }
     {
@@ -66,13 +66,13 @@ impl FrameFault {
 /// The body of a frame.
 #[derive(Drop)]
 pub struct Body {
-    /// Its bytes.
+    /// The bytes of the body.
     pub bytes: BytesMut,
-    /// Whether no byte follows it.
+    /// Whether no further byte follows the frame.
     pub is_last: bool,
 }
 
-/// Bytes that are in no frame yet, seen as their list.
+/// Bytes that are not yet part of a frame. Its value is their list.
 #[derive(Drop)]
 pub struct Unread {
     codec: LengthDelimitedCodec,
@@ -92,7 +92,7 @@ impl Model for Unread {
 }
 
 impl Unread {
-    /// No bytes. Takes no memory.
+    /// No bytes. Allocates nothing.
     pub fn new(alloc: Global) -> Unread
         ensures { result ≡ [] }
     {
@@ -102,7 +102,7 @@ impl Unread {
         }
     }
 
-    /// Puts a piece at the end. Refused only where an allocation failed, and nothing changes then.
+    /// Appends a piece. The only error is a failed allocation, and nothing is changed then.
     pub fn push(&mut self, piece: &[u8]) -> Result<(), AllocError>
         ensures ok { OnOk result (self.new ≡ self.old ++ piece.now) }
         ensures err { OnErr result (self.new ≡ self.old) }
@@ -110,7 +110,7 @@ impl Unread {
         self.buffer.extend_from_slice(piece)
     }
 
-    /// Drops all bytes. Takes no memory.
+    /// Drops all bytes. Allocates nothing.
     pub fn clear(&mut self)
         ensures { self.new ≡ [] }
     {
@@ -118,9 +118,9 @@ impl Unread {
         self.buffer.clear();
     }
 
-    /// Takes the first frame where it is whole; `None` where it is not, and nothing changes.
-    /// Refused as `TooLong` as soon as its four bytes of length are there and over 8,388,608, and
-    /// as `Memory` where an allocation failed.
+    /// Takes the first frame if it is whole; otherwise returns `None`, and nothing changes. Fails
+    /// with `TooLong` (40) as soon as the four bytes of the length are there and it is over
+    /// 8,388,608, and with `Memory` (0) if an allocation failed.
     pub fn next(&mut self) -> Result<Option<Body>, FrameFault>
         ensures { TakesBody self.old result self.new }
     {
@@ -145,16 +145,16 @@ fn fault_of(error: io::Error) -> FrameFault
     }
 }
 
-// What a slice of bytes holds are bytes.
+// Every byte of a slice is below 256.
 fn are_bytes(bytes: &[u8])
     ensures { (i : ℕ) → slice_index bytes.now i < 256 }
 {
-    // for the proof: that what a slice of bytes holds are bytes
+    // for the proof: that a slice of bytes has bytes
     let _ = bytes;
 }
 
-/// Appends the frame of a body: its length in 4 bytes, the highest first, and the body. Refused
-/// only where an allocation failed.
+/// Appends the frame of a body: its big-endian length in 4 bytes, and the body. The only error is a
+/// failed allocation.
 pub fn put_frame<A: Allocator>(out: &mut Vec<u8, A>, body: &[u8]) -> Result<(), AllocError>
     ensures { OnOk result (out.new.items ≡ out.old.items ++ frame_text body.now) }
 {
@@ -164,8 +164,8 @@ pub fn put_frame<A: Allocator>(out: &mut Vec<u8, A>, body: &[u8]) -> Result<(), 
     Ok(())
 }
 
-/// The body of bytes that are one frame and nothing more; `None` where they are not. Refused as
-/// `TooLong` where the length at their front is over 8,388,608. Takes no memory.
+/// The body of bytes that are exactly one frame; `None` if they are not. Fails with `TooLong` (40)
+/// if the length at their front is over 8,388,608. Allocates nothing.
 #[tactic(auto, using(crate::proofs::Sole::followed), unfolding(crate::specs::Frames::front_of))]
 pub fn sole_body(bytes: &[u8]) -> Result<Option<&[u8]>, FrameFault>
     ensures { TakesSole (λ body. body.now) bytes.now result }

@@ -1,4 +1,4 @@
--- By what summaries are compared: of each replica its name, its run and its extras.
+-- Summaries are compared by the name, the run and the extras of each replica.
 use Rattle.std.specs.Prelude.{ℕ, Bool, List, ◌∷◌, nat_eq}
 use Rattle.std.specs.Cmp.{IsEquivalence, IsPartialEquivalence, on_per, on_equiv}
 use Rattle.std.specs.Cmp.{partial_equiv_from_equiv}

@@ -1,4 +1,4 @@
--- The numbers of refusals (profile).
+-- The numbers of faults (profile).
 use Rattle.std.specs.Prelude.{ℕ}
 use Rattle.sync_messages.specs.declared.fault.MessageFault.{MessageFault}
 use Rattle.sync_messages.specs.declared.fault.MessageFault.TheVariants.{Memory, BadMessage}

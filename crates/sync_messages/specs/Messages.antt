@@ -1,4 +1,4 @@
--- Messages and their texts (profile). Numbers have their greatest byte first.
+-- Messages and their texts (profile). Numbers are big-endian.
 use Rattle.std.specs.Prelude.{ℕ, zero, suc, ◌+◌, ◌<◌, Bool, true, List, [], ◌∷◌, ◌++◌, length}
 use Rattle.std.specs.Prelude.{Option, Some, None, Result, Ok, Err, nat_lt, nat_le, ◌==◌, ◌&&◌}
 use Rattle.std.specs.Prelude.{if◌then◌else◌}
@@ -43,9 +43,9 @@ message_text (have summary) = have_text summary
 message_text (ops list) = ops_text list
 message_text bye = bye_text
 
--- ---- reading, field by field; every fault of it is the one fault of a message
+-- ---- reading, field by field; each of its faults is the one fault of a message
 
--- an extra past the one before
+-- an extra greater than the one before
 unfoldable pub extra_at : ℕ → List ℕ → Reads ℕ
 extra_at last bytes = do
   extra ← number_at w64 bytes
@@ -64,14 +64,14 @@ run_at bytes = do
   run ← number_at w64 bytes
   if nat_le run.0 greatest then Ok run else Err BadField
 
--- some number is there
+-- whether there is at least one number
 abbrev pub has_some : SeenSeqs → Bool
 has_some n = nat_lt 0 (n.run + length n.extras)
 
 abbrev pub said : SeenSeqs → List ℕ → Reads SeenSeqs
 said n bytes = if has_some n then Ok (n, bytes) else Err BadField
 
--- what is said of one replica
+-- the numbers of one replica
 unfoldable pub numbers_at : List ℕ → Reads SeenSeqs
 numbers_at bytes = do
   replica ← number_at w128 bytes
@@ -80,13 +80,13 @@ numbers_at bytes = do
   extras ← extras_at count.0 (run.0 + 1) count.1
   said (record { replica = record { 0 = replica.0 }; run = run.0; extras = extras.0 }) extras.1
 
--- the same, of a replica past the one before
+-- the numbers of a replica that is greater than the one before
 unfoldable pub next_at : Option ℕ → List ℕ → Reads SeenSeqs
 next_at last bytes = do
   numbers ← numbers_at bytes
   if is_after nat_cmp last numbers.0.replica.0 then Ok numbers else Err BadField
 
--- this many replicas
+-- the numbers of this many replicas
 unfoldable pub summary_at : ℕ → Option ℕ → List ℕ → Reads Summary
 summary_at zero last bytes = Ok ([], bytes)
 summary_at (suc count) last bytes = do
@@ -99,7 +99,7 @@ counted_at bytes = do
   count ← number_at w32 bytes
   summary_at count.0 None count.1
 
--- nothing may be left
+-- a Have, if no bytes are left
 abbrev pub whole_have : Reads Summary → Option Message
 whole_have (Ok (summary, [])) = Some (have summary)
 whole_have (Ok (summary, b ∷ bytes)) = None
@@ -126,9 +126,9 @@ message_at [] = None
 message_at (tag ∷ bytes) = if nat_lt longest_body (length (tag ∷ bytes)) then None else tagged_at
     tag bytes
 
--- ---- what a message may say
+-- ---- valid messages
 
--- A summary, or operations by rising dot, of which there is one.
+-- A summary, or operations by rising dot, of which there is at least one.
 abbrev pub IsMessage : Message → Type 0
 IsMessage (have summary) = IsSummary summary
 IsMessage (ops list) = AreLogged list × (0 < length list)
@@ -136,17 +136,18 @@ IsMessage bye = Unit {0}
 
 -- ---- lists of operations to send
 
--- an operation more still fits a message that has these; the first always does
+-- whether one more operation still fits a message with these; the first always does
 abbrev pub fits_with : List Op → Op → Bool
 fits_with [] o = true
 fits_with (p ∷ front) o = nat_le (length (ops_text ((p ∷ front) ++ o ∷ []))) longest_body
 
--- what stands in a message that nothing follows
+-- the last message, if it has operations
 abbrev pub last_pack : List Op → List (List Op)
 last_pack [] = []
 last_pack (p ∷ front) = (p ∷ front) ∷ []
 
--- Cut from the left, each message taking as many as fit, after what stands in the message so far.
+-- The messages of operations, given those of the current message: cut from the left, each message
+-- taking as many as fit.
 abbrev pub packs_after : List Op → List Op → List (List Op)
 packs_after front [] = last_pack front
 packs_after front (o ∷ list) =
@@ -156,6 +157,6 @@ packs_after front (o ∷ list) =
 abbrev pub packs : List Op → List (List Op)
 packs list = packs_after [] list
 
--- the frames of the messages
+-- the frames of the messages with these operations
 unfoldable pub ops_frames : List Op → List ℕ
 ops_frames list = flat_map (λ pack. frame_text (ops_text pack)) (packs list)

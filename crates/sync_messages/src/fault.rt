@@ -1,4 +1,4 @@
-//! Why a message is refused.
+//! Why a message cannot be read or written.
 
 ghost use Rattle.std.specs.Prelude.{◌≡◌};
 ghost use Rattle.sync_messages.specs.Faults.{number_of};
@@ -7,14 +7,14 @@ ghost use Rattle.sync_messages.specs.declared.fault.MessageFault.TheVariants.{Me
 use std::alloc::{AllocError, AllocFailed};
 use thiserror::Error;
 
-/// Why bytes are no message, or a message cannot be written. Each refusal has a number that never
+/// Why bytes are not a message, or a message cannot be written. Each fault has a number that never
 /// changes.
 #[derive(Clone, Copy, Debug, PartialEq, Eq, Error)]
 pub enum MessageFault {
-    /// A growth was refused.
+    /// An allocation failed.
     #[error("out of memory")]
     Memory,
-    /// The body of a frame is the text of no message.
+    /// The body of a frame is not the text of a message.
     #[error("not a message")]
     BadMessage,
     /// A body is longer than 8,388,608 bytes.
@@ -23,7 +23,7 @@ pub enum MessageFault {
 }
 
 impl MessageFault {
-    /// The refusal's number: 0, 38 or 40.
+    /// The fault's number: 0, 38 or 40.
     pub fn number(&self) -> u8
         ensures { result ≡ number_of self.now }
     {

@@ -1,4 +1,4 @@
-//! What a summary does not cover.
+//! The operations that a summary does not cover.
 
 ghost use Rattle.std.specs.Prelude.{◌≡◌, ◌++◌, ◌∷◌, [], if◌then◌else◌, IfOk, IfErr, OnOk};
 ghost use Rattle.sync_messages.specs.Summary.{lacking, IsSummary};
@@ -12,8 +12,8 @@ use mt_opcodec::Log;
 use mt_stamp::{Dot, Replica};
 use std::alloc::{AllocError, Allocator};
 
-/// Copies of a log's operations that a summary does not cover, by rising dot, in one walk of the
-/// log and the summary together. Refused only as `Memory` (0).
+/// Copies of a log's operations that a summary does not cover, by rising dot, found in one walk
+/// over the log and the summary together. The only error is `Memory` (0).
 #[tactic(auto, unfolding(crate::specs::Summary::lacking))]
 pub fn lacking<A: Allocator + Clone, B: Allocator>(
     alloc: A,
@@ -35,7 +35,7 @@ pub fn lacking<A: Allocator + Clone, B: Allocator>(
     Ok(ops)
 }
 
-// From the first replica that is no smaller on.
+// The replicas from the first one on that is not smaller than this one.
 fn past<A: Allocator>(replicas: &[SeenSeqs<A>], replica: Replica) -> &[SeenSeqs<A>]
     ensures { result.now ≡ past_replicas replica.0 replicas.now }
 {
@@ -48,7 +48,7 @@ fn past<A: Allocator>(replicas: &[SeenSeqs<A>], replica: Replica) -> &[SeenSeqs<
     }
 }
 
-// Whether a dot of a replica that is not greater than the first one's is covered.
+// Whether the first replica's numbers cover a dot, whose replica is not greater than the first one.
 fn front_covers<A: Allocator>(replicas: &[SeenSeqs<A>], dot: Dot) -> bool
     requires rising { IsSummary replicas.now }
     ensures { result ≡ front_covers replicas.now dot }
@@ -59,7 +59,7 @@ fn front_covers<A: Allocator>(replicas: &[SeenSeqs<A>], dot: Dot) -> bool
     }
 }
 
-// Puts a copy of an operation at the end, unless it is covered.
+// Appends a copy of an operation, unless it is covered.
 fn push_unless<A: Allocator + Clone>(
     ops: &mut Vec<Op<A>, A>,
     is_covered: bool,

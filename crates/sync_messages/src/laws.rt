@@ -1,5 +1,5 @@
-//! What holds of summaries and messages: each law is the contract of a small function, which does
-//! nothing or only compares.
+//! Laws of summaries and messages: each law is the contract of a small function, which does nothing
+//! or only compares.
 
 ghost use Rattle.std.specs.Prelude.{◌≡◌, ◌↔◌, IsTrue};
 ghost use Rattle.sync_messages.specs.Laws.{IsSummaryOf, RunsAreGreatest, MessageTexts};
@@ -16,43 +16,43 @@ use std::alloc::Allocator;
 pub fn summaries<A: Allocator>(log: &Log<A>)
     ensures { IsSummaryOf log.now }
 {
-    // for the proof: that its operations are a log's
+    // for the proof: that its operations are those of a log
     let _ = log.runs();
 }
 
-/// No run of a summary can be longer: the number after it is not covered.
+/// No run of a summary could be longer: the number after it is not covered.
 pub fn runs()
     ensures { RunsAreGreatest }
 {}
 
-/// A body that is read is the text of what is read, and the text of a message is read as it.
+/// A body that is read is the text of the message, and the text of a message is read as that
+/// message.
 pub fn texts()
     ensures { MessageTexts }
 {}
 
-/// Operations are cut into messages from the left: one after another they are the list, none is
-/// empty, each fits a frame, and the next operation would not have.
+/// Operations are cut into messages from the left: concatenated they are the list, none is empty,
+/// each fits a frame, and the first operation of the next message would not have fit.
 pub fn packs()
     ensures { PacksAreGreedy }
 {}
 
-/// What is said of a replica is equal where the replica, the run and the extras are.
+/// The numbers of a replica are equal if the replica, the run and the extras are.
 pub fn equal_numbers<A: Allocator>(numbers: &SeenSeqs<A>, other: &SeenSeqs<A>) -> bool
     ensures { IsTrue result ↔ (numbers.now ≡ other.now) }
 {
     numbers == other
 }
 
-/// Summaries are equal where they say the same of each replica: so, as each log has one summary,
-/// where they cover the same dots.
+/// Summaries are equal if they have the same numbers of each replica: so, as each log has exactly
+/// one summary, if they cover the same dots.
 pub fn equal_summaries<A: Allocator>(summary: &Summary<A>, other: &Summary<A>) -> bool
     ensures { IsTrue result ↔ (summary.now ≡ other.now) }
 {
     summary == other
 }
 
-/// Messages are equal where they are of one kind and say the same: the same summary, or the same
-/// operations.
+/// Messages are equal if they are of one kind and have the same summary, or the same operations.
 pub fn equal_messages<A: Allocator>(message: &Message<A>, other: &Message<A>) -> bool
     ensures { IsTrue result ↔ (message_of message.now ≡ message_of other.now) }
 {

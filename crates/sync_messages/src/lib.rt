@@ -1,8 +1,8 @@
 //! Summaries of logs, and the messages of a conversation.
 //!
-//! A `Summary` tells which operations a log has, in a few bytes for each replica, and `lacking`
-//! gives those of another log that it does not cover. A `Message` carries either from one editor to
-//! the other:
+//! A `Summary` has the dots of a log's operations, in a few bytes for each replica (a version
+//! vector with exceptions), and `lacking` returns those operations of another log that it does not
+//! cover. A `Message` carries either from one editor to the other:
 //!
 //! ```rust
 //! use mt_op::{Body, Op, Title};
@@ -16,7 +16,7 @@
 //!     let title = Title::new(rt.alloc(), "News")?;
 //!     let mut desk = Log::new(rt.alloc());
 //!     let _new = desk.add(Op::new(marker, Body::AddMarker { at: 480, title })?)?;
-//!     // home has a copy, and tells which operations it has, in 33 bytes
+//!     // home has a copy, and sends a summary of its operations, in 33 bytes
 //!     let home = desk.try_clone()?;
 //!     let _new = desk.add(Op::new(later, Body::MoveMarker { marker, at: 960 })?)?;
 //!     let have = Message::Have(Summary::of(rt.alloc(), &home)?).write(rt.alloc())?;

@@ -21,16 +21,16 @@ use mt_opcodec::{LogFault, ReadFault, read_ops, u32_at};
 use mt_stamp::{Dot, List};
 use std::alloc::{AllocError, Allocator, Global};
 
-/// What one end of a conversation tells the other: the summary of its log, operations, or that it
-/// has told all.
+/// A message from one end of a conversation to the other: the summary of its log, operations, or
+/// that there are no more.
 #[derive(Drop)]
 #[derive_where(PartialEq, Eq)]
 pub enum Message<A: Allocator = Global> {
-    /// Which operations its log has.
+    /// The dots of the operations that its log has.
     Have(Summary<A>),
-    /// Operations, of which there is one, by rising dot.
+    /// Operations, at least one, by rising dot.
     Ops(List<Op<A>, A>),
-    /// Nothing follows.
+    /// The last message: nothing follows.
     Bye,
 }
 
@@ -38,13 +38,13 @@ pub enum Message<A: Allocator = Global> {
 pub(crate) const LONGEST_BODY: usize = 8_388_608;
 
 impl<A: Allocator + Clone> Message<A> {
-    /// Reads the body of a frame. Refused as `BadMessage` (38) where it is the text of no message
-    /// or longer than 8,388,608 bytes, and as `Memory` (0) where an allocation failed. Memory is
-    /// taken as items are read, never for a count.
+    /// Reads the body of a frame. Fails with `BadMessage` (38) if it is not the text of a message
+    /// or is longer than 8,388,608 bytes, and with `Memory` (0) if an allocation failed. Allocates
+    /// as items are read, never for a count.
     ///
     /// A Have is the byte 1, the number of replicas in 4 bytes, and for each replica, rising, its
     /// 16 bytes, its run in 8, the number of extras in 4, and each extra in 8, rising; the run is
-    /// at most 2^62, each extra greater than the run and 1 and at most 2^62, and a replica has a
+    /// at most 2^62, each extra greater than the run plus 1 and at most 2^62, and a replica has a
     /// run or an extra. Ops are the byte 2, their number in 4 bytes, from 1, and the texts of the
     /// operations by rising dot. Bye is the byte 3.
     #[tactic(auto, unfolding(crate::specs::Messages::message_at))]
@@ -60,14 +60,14 @@ impl<A: Allocator + Clone> Message<A> {
         tagged_of(alloc, *tag, rest)
     }
 
-    /// Whether the message may be written: one of operations has at least one, and their dots rise.
-    /// Takes no memory; its time is linear in the operations.
+    /// Whether the message may be written: Ops have at least one operation, and their dots rise.
+    /// Allocates nothing. Takes time linear in the number of operations.
     pub fn is_well_formed(&self) -> bool
         ensures { IsTrue result ↔ IsMessage (message_of self.now) }
     {
         match self {
             Message::Have(summary) => {
-                // for the proof: that it is a summary
+                // for the proof: reading it shows that it is a summary
                 let _ = summary.replicas();
                 true
             }
@@ -76,9 +76,9 @@ impl<A: Allocator + Clone> Message<A> {
         }
     }
 
-    /// The body of a frame, of a message that is well-formed (`is_well_formed`). Refused as
-    /// `FrameTooLong` (40) where it is longer than 8,388,608 bytes, so too where a number of items
-    /// does not fit its 4 bytes, and as `Memory` (0) where an allocation failed.
+    /// The message as the body of a frame. The message must be well-formed (`is_well_formed`).
+    /// Fails with `FrameTooLong` (40) if the body is longer than 8,388,608 bytes, which includes
+    /// every count that does not fit its 4 bytes, and with `Memory` (0) if an allocation failed.
     pub fn write(&self, alloc: A) -> Result<Vec<u8, A>, MessageFault>
         requires { IsMessage (message_of self.now) }
         ensures { WritesAs (λ text. text.items) (message_text (message_of self.now)) result }
@@ -92,7 +92,7 @@ impl<A: Allocator + Clone> Message<A> {
     }
 }
 
-// Whether a dot is greater than the one before it, where there is one.
+// Whether a dot is greater than the one before it, if there is one.
 fn is_after(last: Option<Dot>, dot: Dot) -> bool
     ensures { result ≡ is_after dot_cmp last dot }
 {
@@ -102,7 +102,7 @@ fn is_after(last: Option<Dot>, dot: Dot) -> bool
     }
 }
 
-// Whether the dot of each operation is greater than the one before it.
+// Whether the dots of the operations rise.
 fn rise<A: Allocator>(ops: &[Op<A>]) -> bool
     ensures rise { IsTrue result ↔ IsTrue (dots_rise ops.now) }
     ensures valid { IsTrue result → AllByRecursion IsOp ops.now }

@@ -1,4 +1,4 @@
-//! What a summary says of one replica.
+//! The numbers of one replica in a summary.
 
 ghost use Rattle.std.specs.Prelude.{◌≡◌, ℕ, ◌==◌, [], IfOk};
 ghost use Rattle.sync_messages.specs.Summary.{with_number, numbers_of, has_number, covers_dot};
@@ -9,8 +9,8 @@ use mt_stamp::{Dot, Replica};
 use std::alloc::{AllocError, Allocator, Global};
 use std::marker::Model;
 
-/// Which numbers of one replica's operations are there: those from 1 to `run`, and the extras,
-/// which rise. Seen as the record of the three.
+/// The numbers of one replica's operations that a log has: those from 1 to `run`, and the extras,
+/// which rise. Its value is the record of the three.
 #[derive(Drop)]
 pub struct SeenSeqs<A: Allocator = Global> {
     replica: Replica,
@@ -38,14 +38,14 @@ impl<A: Allocator> SeenSeqs<A> {
         }
     }
 
-    // The numbers of a replica that has this one.
+    // The numbers of a replica, of which this is the only one.
     pub(crate) fn of(alloc: A, dot: Dot) -> Result<Self, AllocError>
         ensures ok { IfOk result (λ numbers. numbers ≡ numbers_of dot) }
     {
         SeenSeqs::new(dot.replica, 0, Vec::new(alloc)).with(dot.seq)
     }
 
-    // One number more, greater than all before.
+    // Adds a number that is greater than all before.
     pub(crate) fn with(self, seq: u64) -> Result<Self, AllocError>
         ensures ok { IfOk result (λ numbers. numbers ≡ with_number self seq) }
     {
@@ -76,7 +76,7 @@ impl<A: Allocator> SeenSeqs<A> {
         self.run
     }
 
-    /// The numbers past the run, rising.
+    /// The numbers after the run, rising.
     pub fn extras(&self) -> &[u64]
         ensures { result.now ≡ self.now.extras }
     {
@@ -91,7 +91,7 @@ impl<A: Allocator> SeenSeqs<A> {
         (0 < seq && seq <= self.run) || contains(&self.extras, seq)
     }
 
-    // Whether a dot is that of a number of this replica.
+    // Whether a dot is one of these numbers of this replica.
     pub(crate) fn covers(&self, dot: Dot) -> bool
         requires rising { AreNumbers self.now }
         ensures { result ≡ covers_dot self.now dot }
@@ -100,7 +100,7 @@ impl<A: Allocator> SeenSeqs<A> {
     }
 }
 
-// By the replica, the run and the extras.
+// Compares the replica, the run and the extras.
 impl<A: Allocator> PartialEq for SeenSeqs<A> {
     ghost use Rattle.std.specs.Cmp.{on_per, partial_equiv_from_equiv};
     ghost use Rattle.std.specs.Cmp.Lexicographic.{nat_list_eq_equiv};

@@ -1,4 +1,4 @@
-//! Lists of operations as frames of messages.
+//! Lists of operations as frames of Ops messages.
 
 ghost use Rattle.std.specs.Prelude.{◌≡◌, ◌++◌, ◌≤◌, length, OnOk, IfOk};
 ghost use Rattle.mt_opcodec.specs.OpText.{op_text};
@@ -11,9 +11,9 @@ use mt_op::Op;
 use mt_opcodec::write_op;
 use std::alloc::{AllocError, Allocator};
 
-/// Appends operations, by rising dot, as frames of Ops: cut from the left, each message taking as
-/// many as fit in 8,388,608 bytes, of which one always does. No operations, no frame. Refused only
-/// where an allocation failed; `out` then holds what it held and a part of the frames.
+/// Appends operations, by rising dot, as frames of Ops. They are cut from the left: each message
+/// takes as many as fit 8,388,608 bytes, always at least one. Without operations there is no frame.
+/// The only error is a failed allocation; `out` may then end in a part of the frames.
 #[tactic(auto, unfolding(crate::specs::Messages::ops_frames))]
 pub fn put_ops_frames<A: Allocator + Clone, B: Allocator>(
     out: &mut Vec<u8, A>,
@@ -44,8 +44,8 @@ fn text_of<A: Allocator + Clone, B: Allocator>(
     Ok(text)
 }
 
-// Puts the message of the operations from this place on, where it has no room for this text, and
-// answers from where on the next operations stand in one message.
+// Appends the message of the operations from index `from` on, if it has no room for this text, and
+// returns the index of the first operation of the current message.
 fn make_room<A: Allocator>(
     out: &mut Vec<u8, A>,
     texts: &mut Vec<u8, A>,
@@ -66,7 +66,7 @@ fn make_room<A: Allocator>(
     }
 }
 
-// Puts the last message, where it has operations.
+// Appends the last message, if it has operations.
 fn put_last<A: Allocator>(
     out: &mut Vec<u8, A>,
     texts: &[u8],
@@ -80,7 +80,7 @@ fn put_last<A: Allocator>(
     Ok(())
 }
 
-// Puts the frame of a message of this many operations.
+// Appends the frame of a message with this many operations.
 fn put_pack<A: Allocator>(
     out: &mut Vec<u8, A>,
     count: usize,

@@ -25,7 +25,7 @@ fn extra_of(last: u64, bytes: &[u8]) -> Result<(u64, &[u8]), ReadFault>
     }
 }
 
-// This many extras, pushed as they are read: the count alone takes no memory.
+// Reads this many extras, pushing each as it is read: the count alone allocates nothing.
 fn extras_of<A: Allocator + Clone>(
     alloc: A,
     count: u32,
@@ -63,7 +63,7 @@ fn run_of(bytes: &[u8]) -> Result<(u64, &[u8]), ReadFault>
     }
 }
 
-// Whether some number is there.
+// Whether there is any number.
 fn has_some(run: u64, extras: &[u64]) -> bool
     requires { run ≤ greatest }
     ensures { result ≡ has_some (record { replica = record { 0 = 0 }; run = run; extras = extras.now
@@ -114,7 +114,7 @@ fn next_of<A: Allocator + Clone>(
     }
 }
 
-// This many replicas, pushed as they are read.
+// Reads this many replicas, pushing each as it is read.
 fn replicas_of<A: Allocator + Clone>(
     alloc: A,
     count: u32,

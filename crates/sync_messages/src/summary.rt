@@ -12,8 +12,9 @@ use mt_stamp::Dot;
 use std::alloc::{AllocError, Allocator, Global};
 use std::marker::Model;
 
-/// Which operations a log has, by their dots: of each replica, by rising replica, the longest run
-/// of numbers from 1 on, and the others. Seen as the list of what it says of each replica.
+/// The dots of a log's operations, as a version vector with exceptions: for each replica, by rising
+/// replica, the longest run of numbers from 1 on, and the other numbers. Its value is the list of
+/// the numbers of each replica.
 #[derive(Drop)]
 pub struct Summary<A: Allocator = Global> {
     all: Vec<SeenSeqs<A>, A>,
@@ -30,7 +31,7 @@ impl<A: Allocator> Model for Summary<A> {
 }
 
 impl<A: Allocator> Summary<A> {
-    // The summary that says this.
+    // The summary with these numbers.
     pub(crate) fn new(all: Vec<SeenSeqs<A>, A>) -> Self
         requires { IsSummary all.items }
         ensures { result ≡ all.items }
@@ -38,7 +39,7 @@ impl<A: Allocator> Summary<A> {
         Summary { all }
     }
 
-    /// What it says of each replica, by rising replica.
+    /// The numbers of each replica, by rising replica.
     pub fn replicas(&self) -> &[SeenSeqs<A>]
         ensures value { result.now ≡ self.now }
         ensures rising { IsSummary self.now }
@@ -46,7 +47,7 @@ impl<A: Allocator> Summary<A> {
         &self.all
     }
 
-    /// Whether it covers a dot: whether the operation of that name is among those that it tells of.
+    /// Whether it covers a dot: whether its log has an operation with this dot.
     pub fn covers(&self, dot: &Dot) -> bool
         ensures { result ≡ covers self.now dot.now }
     {
@@ -59,7 +60,7 @@ impl<A: Allocator> Summary<A> {
     }
 }
 
-// By what they say of each replica.
+// Compares the numbers of each replica.
 impl<A: Allocator> PartialEq for Summary<A> {
     ghost use Rattle.std.specs.Cmp.Lexicographic.{pointwise, lists_per};
     ghost use Rattle.sync_messages.specs.Equal.{numbers_eq, numbers_per};
@@ -81,7 +82,7 @@ impl<A: Allocator> Eq for Summary<A> {
 }
 
 impl<A: Allocator + Clone> Summary<A> {
-    /// The summary of a log, in one walk of it. Refused only as `Memory` (0).
+    /// The summary of a log, made in one walk over it. The only error is `Memory` (0).
     #[tactic(auto, unfolding(crate::specs::Summary::summary_of))]
     pub fn of<B: Allocator>(alloc: A, log: &Log<B>) -> Result<Self, MessageFault>
         ensures ok { IfOk result (λ summary. summary ≡ summary_of log.now) }
@@ -95,7 +96,7 @@ impl<A: Allocator + Clone> Summary<A> {
     }
 }
 
-// What is said of operations by rising dot.
+// The numbers of each replica of operations that rise by dot.
 fn summary_of_ops<A: Allocator + Clone, B: Allocator>(
     alloc: A,
     ops: &[&Op<B>],
@@ -111,7 +112,7 @@ fn summary_of_ops<A: Allocator + Clone, B: Allocator>(
     Ok(all)
 }
 
-// Puts the numbers of the last replica at the end, where there is one.
+// Appends the numbers of the last replica, if there is one.
 fn put_last<A: Allocator>(
     all: &mut Vec<SeenSeqs<A>, A>,
     last: Option<SeenSeqs<A>>,
@@ -124,7 +125,8 @@ fn put_last<A: Allocator>(
     Ok(())
 }
 
-// The numbers of the dot's replica with this dot; those of the replica before it are done.
+// The numbers of the dot's replica with this dot added. If they are of a new replica, those of the
+// replica before it are appended to the list.
 fn next<A: Allocator + Clone>(
     alloc: &A,
     all: &mut Vec<SeenSeqs<A>, A>,

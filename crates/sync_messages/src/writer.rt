@@ -1,4 +1,4 @@
-//! Writing messages, and lists of operations as frames of messages.
+//! Writing the bodies of messages.
 
 ghost use Rattle.std.specs.Prelude.{◌≡◌, ◌++◌, List, length, OnOk};
 ghost use Rattle.std.specs.List.{flat_map};
@@ -12,7 +12,7 @@ use mt_opcodec::write_op;
 use mt_stamp::Replica;
 use std::alloc::{AllocError, Allocator};
 
-// Appends a count in 4 bytes: the last 4 of its 8.
+// Appends a count in 4 bytes: the lower 4 of its 8.
 pub(crate) fn put_count<A: Allocator>(out: &mut Vec<u8, A>, count: usize) -> Result<(), AllocError>
     ensures { OnOk result (out.new.items ≡ out.old.items ++ to_be_bytes w32 count) }
 {
@@ -44,7 +44,7 @@ fn put_extras<A: Allocator>(out: &mut Vec<u8, A>, extras: &[u64]) -> Result<(), 
     Ok(())
 }
 
-// Appends what is said of one replica.
+// Appends the numbers of one replica.
 fn put_numbers<A: Allocator, B: Allocator>(
     out: &mut Vec<u8, A>,
     numbers: &SeenSeqs<B>,
@@ -58,7 +58,7 @@ fn put_numbers<A: Allocator, B: Allocator>(
     Ok(())
 }
 
-// Appends what is said of each replica.
+// Appends the numbers of each replica.
 fn put_replicas<A: Allocator, B: Allocator>(
     out: &mut Vec<u8, A>,
     all: &[SeenSeqs<B>],

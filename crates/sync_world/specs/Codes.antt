@@ -1,4 +1,4 @@
--- By what worlds are told apart, where a contract compares them.
+-- Codes of worlds, which distinguish them where a contract compares them.
 use Rattle.std.specs.Prelude.{ℕ, List, refl}
 use Rattle.std.specs.Coded.{Coded, code_by, coded×, coded_ℕ, coded_list}
 use Rattle.mt_op.specs.OpValue.{Op}

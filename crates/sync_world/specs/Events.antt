@@ -1,4 +1,4 @@
--- What an event in memory says.
+-- The value of an event in memory.
 use Rattle.mt_replica.specs.Changes.{edit_of}
 use Rattle.sync_world.specs.declared.event.Event.{Event as EventFields}
 use Rattle.sync_world.specs.declared.event.Event.TheVariants as event

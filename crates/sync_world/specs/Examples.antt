@@ -1,4 +1,4 @@
--- Histories worked out: what was sent, and what each editor then sees.
+-- Worked histories: what was sent, and the session of each editor.
 use Rattle.std.specs.Prelude.{◌≡◌, ℕ, List, [], ◌∷◌, ◌++◌, map, codes}
 use Rattle.mt_stamp.specs.declared.name.Replica.{Replica}
 use Rattle.mt_stamp.specs.StampOrder.{Stamp}
@@ -19,7 +19,7 @@ pub record Shows (world : World) (sent : List Op) (seen : List Session) : Type 0
   pub sent_is : world.sent ≡ sent
   pub sessions_are : sessions world ≡ seen
 
--- two editors, of replica 10 and of replica 11
+-- two editors: replica 10 and replica 11
 abbrev pub two : List Replica
 two = record { 0 = 10 } ∷ record { 0 = 11 } ∷ []
 
@@ -32,8 +32,8 @@ marker stamp at title = record { marker = stamp; at = at; len = 0; title = title
 abbrev pub shown : List Marker → ℕ → Session
 shown markers held = record { tracks = []; markers = markers; held = held }
 
--- What was not saved is gone with a restart, and its number is given again; a second take, and a
--- take of what was not sent, change nothing.
+-- What was not saved is lost by a restart, and its number is given again; a second take, and a take
+-- of what was not sent, change nothing.
 abbrev pub restarting : List Event
 restarting = Edits 0 (AddMarker 1 (codes "X")) ∷ Restarts 0 ∷ Edits 0 (AddMarker 2 (codes "Y"))
     ∷ Saves 0 ∷ Takes 1 0 ∷ Takes 1 0 ∷ Takes 1 5 ∷ []
@@ -43,7 +43,7 @@ RestartedWorld = Shows (world_of two restarting) (adds (by 1 10 1) 2 (codes "Y")
     (shown (marker (by 1 10 1) 2 (codes "Y") ∷ []) 0 ∷ shown (marker (by 1 10 1) 2 (codes "Y") ∷ [])
         0 ∷ [])
 
--- A restart takes back what was taken and made since the last save, and what was saved stays.
+-- A restart undoes what was taken and made since the last save, and what was saved stays.
 abbrev pub losing : List Event
 losing = Edits 0 (AddMarker 1 (codes "X")) ∷ Edits 1 (AddMarker 2 (codes "Y")) ∷ Saves 0 ∷ Saves 1
     ∷ Takes 0 1 ∷ Takes 1 0 ∷ Edits 1 (Remove (by 1 10 1)) ∷ Restarts 1 ∷ []
@@ -54,7 +54,7 @@ LostRemoval = Shows (world_of two losing) (adds (by 1 10 1) 1 (codes "X")
     (shown (marker (by 1 10 1) 1 (codes "X") ∷ marker (by 1 11 1) 2 (codes "Y") ∷ []) 0
         ∷ shown (marker (by 1 11 1) 2 (codes "Y") ∷ []) 0 ∷ [])
 
--- What comes before what it needs waits for it.
+-- An operation that arrives before what it needs waits for it.
 abbrev pub retitling : List Event
 retitling = Edits 0 (AddMarker 1 (codes "X")) ∷ Edits 0 (Retitle (by 1 10 1) (codes "Z")) ∷ Saves 0
     ∷ Takes 1 1 ∷ []

@@ -1,4 +1,4 @@
--- The number of each refusal.
+-- The number of each fault.
 use Rattle.std.specs.Prelude.{ℕ}
 use Rattle.sync_world.specs.declared.fault.WorldFault.{WorldFault}
 use Rattle.sync_world.specs.declared.fault.WorldFault.TheVariants.{Memory, SameName}

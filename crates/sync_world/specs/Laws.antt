@@ -1,4 +1,4 @@
--- What holds of every world, whatever happened in it.
+-- Laws of every world, whatever happened in it.
 use Rattle.std.specs.Prelude.{◌≡◌, ◌≢◌, ℕ, List, [], Some, Ok, slice_get, ◌⊎◌}
 use Rattle.std.specs.List.{Contains}
 use Rattle.std.specs.FinMap as map
@@ -14,7 +14,7 @@ use Rattle.mt_replica.specs.Made.{made}
 use Rattle.sync_world.specs.World.{Peer, World, Event, Restarts, edited, step, world_of}
 use Rattle.sync_world.specs.Names.{NamesDiffer}
 
--- an editor of the world, by its place
+-- the editor of the world at an index
 abbrev pub IsPeerAt : World → ℕ → Peer → Type 0
 IsPeerAt world editor peer = slice_get world.peers editor ≡ Some peer
 
@@ -23,43 +23,43 @@ abbrev pub IsAnywhere : World → Op → Type 0
 IsAnywhere world o = Contains world.sent o ⊎ ((editor : ℕ) × (peer : Peer)
     × IsPeerAt world editor peer × Has peer.taken o)
 
--- What was sent and all that was taken is one log: no two different operations have one dot.
+-- All operations that were sent or taken are one log: no two different ones have the same dot.
 abbrev pub OneUnderEachDot : World → Type 0
 OneUnderEachDot world = (o p : Op) → IsAnywhere world o → IsAnywhere world p → op_dot o ≡ op_dot p
     → o ≡ p
 
--- What was sent stands once in the list, however often it was saved: its dots differ.
+-- Each sent operation occurs once in the list, however often it was saved: the dots differ.
 abbrev pub SentOnce : World → Type 0
 SentOnce world = DifferBy op_dot world.sent
 
--- No take meets another operation under the dot of what was sent.
+-- No take of a sent operation meets another operation under its dot.
 abbrev pub NoTakeConflicts : World → Type 0
 NoTakeConflicts world = (editor : ℕ) (peer : Peer) (o p : Op) → IsPeerAt world editor peer
     → Contains world.sent o → map.get peer.taken (op_dot o) ≡ Some p → p ≡ o
 
--- What an edit makes is then in its author's set, and its own.
+-- An operation that an edit makes is then in its author's set, and has its author's name.
 abbrev pub MadeIsTaken : World → Type 0
 MadeIsTaken world = (editor : ℕ) (peer : Peer) (edit : Edit) (o : Op) → IsPeerAt world editor peer
     → made (operations peer.taken) peer.name edit ≡ Ok o → Has (edited peer edit).taken o
     × (o.stamp.replica ≡ peer.name)
 
--- What an editor has taken stays there through every event but a restart of that editor.
+-- What an editor has taken stays through every event except a restart of that editor.
 abbrev pub StaysUntilRestart : World → Type 0
 StaysUntilRestart world = (happening : Event) (editor : ℕ) (old new : Peer) (o : Op)
     → IsPeerAt world editor old → IsPeerAt (step world happening) editor new
     → happening ≢ Restarts editor → Has old.taken o → Has new.taken o
 
--- Each of an editor's own operations is ready in its set while that has it.
+-- Each of an editor's own operations is ready in its set as long as the set has it.
 abbrev pub ReadyAtItsAuthor : World → Type 0
 ReadyAtItsAuthor world = (editor : ℕ) (peer : Peer) (o : Op) → IsPeerAt world editor peer
     → Has peer.taken o → o.stamp.replica ≡ peer.name → IsReadyIn peer.taken o
 
--- Who has taken every sent operation holds nothing back.
+-- An editor that has taken every sent operation holds nothing back.
 abbrev pub NothingHeldBack : World → Type 0
 NothingHeldBack world = (editor : ℕ) (peer : Peer) → IsPeerAt world editor peer
     → ((o : Op) → Contains world.sent o → Has peer.taken o) → held_ops (operations peer.taken) ≡ []
 
--- after every list of events, between editors whose names differ
+-- the property holds after every list of events, between editors whose names differ
 abbrev pub InEveryWorld : (World → Type 0) → Type 0
 InEveryWorld Holds = (names : List Replica) (happenings : List Event) → NamesDiffer names
     → Holds (world_of names happenings)

@@ -20,7 +20,7 @@ peer_of seat = peer_from seat.editor seat.saved
 abbrev pub seen : {A : Type 0} → List (PeerFields A) → List Op → World
 seen seats sent = record { peers = list_map peer_of seats; sent = sent }
 
--- Its editor has not failed: it has taken what was saved and what was not, and these agree.
+-- The editor has not failed: it has taken what was saved and what was not, and these agree.
 pub record IsWhole {A : Type 0} (seat : PeerFields A) : Type 0 where
   pub taken : seat.editor.log ≡ Some (union seat.saved seat.unsaved)
   pub agree : Agree seat.saved seat.unsaved
@@ -28,12 +28,12 @@ pub record IsWhole {A : Type 0} (seat : PeerFields A) : Type 0 where
 abbrev pub AreWhole : {A : Type 0} → List (PeerFields A) → Type 0
 AreWhole seats = All IsWhole seats
 
--- what an editor has saved was sent
+-- everything that an editor has saved was sent
 abbrev pub SavedIsSent : World → Type 0
 SavedIsSent world = (i : ℕ) (peer : Peer) → slice_get world.peers i ≡ Some peer → (o : Op)
     → Has peer.saved o → is_sent world.sent o ≡ true
 
--- no editor has failed, and all that was saved was sent
+-- no editor has failed, and everything that was saved was sent
 pub record IsSound {A : Type 0} (seats : List (PeerFields A)) (sent : List Op) : Type 0 where
   pub whole : AreWhole seats
   pub saved : SavedIsSent (seen seats sent)

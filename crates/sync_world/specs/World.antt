@@ -23,36 +23,36 @@ pub record Peer : Type 0 where
   pub taken : LogMap
   pub saved : LogMap
 
--- All editors, and the operations that were sent, in the order in which they were.
+-- All editors, and the operations that were sent, in the order of their sending.
 pub record World : Type 0 where
   pub peers : List Peer
   pub sent : List Op
 
--- What happens; editors and sent operations are counted from 0.
+-- An event; editors and sent operations are counted from 0.
 pub data Event : Type 0 where
   Edits : (editor : ℕ) (edit : Edit) → Event
   Saves : (editor : ℕ) → Event
   Takes : (editor sent : ℕ) → Event
   Restarts : (editor : ℕ) → Event
 
--- ---- what happens to one editor
+-- ---- events of one editor
 
--- the operation that an edit makes joins what was taken; a refused edit changes nothing
+-- the operation that an edit makes is added to what was taken; a refused edit changes nothing
 abbrev pub with_made : Peer → Result Op EditorFault → Peer
 with_made peer (Ok o) = record { name = peer.name; taken = with_op peer.taken o; saved = peer.saved
     }
 with_made peer (Err fault) = peer
 
--- An edit makes what it makes of the set taken.
+-- An edit is made on the set that was taken.
 abbrev pub edited : Peer → Edit → Peer
 edited peer edit = with_made peer (made (operations peer.taken) peer.name edit)
 
--- An operation joins a set. Where one stands under its dot the set stays: it is the same one
+-- An operation is added to a set. If there is one under its dot the set stays: it is the same one
 -- (`NoTakeConflicts`).
 abbrev pub joined : LogMap → Op → LogMap
 joined set o = if is_some (map.get set (op_dot o)) then set else with_op set o
 
--- What was sent, if something was under that number, joins what was taken.
+-- The sent operation at an index, if there is one, is added to what was taken.
 abbrev pub taking : Peer → Option Op → Peer
 taking peer None = peer
 taking peer (Some o) = record { name = peer.name; taken = joined peer.taken o; saved = peer.saved }
@@ -63,7 +63,7 @@ saving peer = record { name = peer.name; taken = peer.taken; saved = peer.taken 
 abbrev pub restarted : Peer → Peer
 restarted peer = record { name = peer.name; taken = peer.saved; saved = peer.saved }
 
--- whether an operation of this dot was sent
+-- whether an operation with this dot was sent
 abbrev pub is_sent : List Op → Op → Bool
 is_sent sent o = list_any (λ (s : Op). is_eq (dot_cmp (op_dot o) (op_dot s))) sent
 
@@ -71,9 +71,9 @@ is_sent sent o = list_any (λ (s : Op). is_eq (dot_cmp (op_dot o) (op_dot s))) s
 abbrev pub unsent : List Op → LogMap → List Op
 unsent sent set = filter (λ (o : Op). not (is_sent sent o)) (operations set)
 
--- ---- what happens to the world
+-- ---- events of the world
 
--- an event that names no editor changes nothing
+-- an event whose editor does not exist changes nothing
 abbrev pub where_there : World → Option Peer → (Peer → World) → World
 where_there world None change = world
 where_there world (Some peer) change = change peer
@@ -83,12 +83,12 @@ abbrev pub with_peer : World → ℕ → Peer → World
 with_peer world editor peer = record { peers = slice_set world.peers editor peer; sent = world.sent
     }
 
--- the world with one editor's state saved, and with what it had not sent sent
+-- the world with one editor's state saved, and with all its unsent operations sent
 abbrev pub with_saved : World → ℕ → Peer → World
 with_saved world editor peer = record { peers = slice_set world.peers editor (saving peer); sent =
     world.sent ++ unsent world.sent peer.taken }
 
--- One event.
+-- The world after one more event.
 abbrev pub step : World → Event → World
 step world (Edits editor edit) = where_there world (slice_get world.peers editor)
     (λ peer. with_peer world editor (edited peer edit))
@@ -99,7 +99,7 @@ step world (Takes editor sent) = where_there world (slice_get world.peers editor
 step world (Restarts editor) = where_there world (slice_get world.peers editor)
     (λ peer. with_peer world editor (restarted peer))
 
--- one event after another
+-- the world after a list of events
 abbrev pub after : World → List Event → World
 after world [] = world
 after world (happening ∷ happenings) = after (step world happening) happenings
@@ -111,13 +111,13 @@ new_peer name = record { name = name; taken = map.empty; saved = map.empty }
 abbrev pub start : List Replica → World
 start names = record { peers = list_map new_peer names; sent = [] }
 
--- The world of editors of these names after these events.
+-- The world of editors with these names after these events.
 abbrev pub world_of : List Replica → List Event → World
 world_of names happenings = after (start names) happenings
 
--- ---- what can be asked of a world
+-- ---- queries
 
--- the name of an editor, by its place, and what it has taken, if there is one
+-- the name of the editor at an index, and what it has taken, if there is one
 abbrev pub name_at : World → ℕ → Option Replica
 name_at world editor = option_map (λ (peer : Peer). peer.name) (slice_get world.peers editor)
 

@@ -1,4 +1,4 @@
-//! Why there is no world.
+//! Why a run gives no world.
 
 ghost use Rattle.std.specs.Prelude.{◌≡◌};
 ghost use Rattle.sync_world.specs.Faults.{number_of};
@@ -7,19 +7,19 @@ ghost use Rattle.sync_world.specs.declared.fault.WorldFault.TheVariants.{Memory}
 use std::alloc::{AllocError, AllocFailed};
 use thiserror::Error;
 
-/// Why a run gives no world. Each refusal has a number that never changes.
+/// Why a run gives no world. Each fault has a number that never changes.
 #[derive(Clone, Copy, Debug, PartialEq, Eq, Error)]
 pub enum WorldFault {
-    /// A growth was refused.
+    /// An allocation failed.
     #[error("out of memory")]
     Memory,
-    /// The name at this index, counted from 0, stands before it too. It is the least such index.
+    /// The name at this index, counted from 0, also occurs before it. It is the least such index.
     #[error("two editors have one name")]
     SameName(usize),
 }
 
 impl WorldFault {
-    /// The refusal's number: 0 or 48.
+    /// The fault's number: 0 or 48.
     pub fn number(&self) -> u8
         ensures { result ≡ number_of self.now }
     {

@@ -1,6 +1,5 @@
-//! What holds of every world, whatever happened in it, histories that are worked out, and when
-//! faults are equal: each law is the contract of a small function, which does nothing or only
-//! compares.
+//! Laws of every world, whatever happened in it, worked histories, and the equality of faults: each
+//! law is the contract of a small function, which does nothing or only compares.
 
 ghost use Rattle.std.specs.Prelude.{◌≡◌, ◌↔◌, IsTrue};
 ghost use Rattle.sync_world.specs.Examples.{RestartedWorld, LostRemoval, HeldRetitle, MetRetitle};
@@ -11,11 +10,11 @@ ghost use Rattle.sync_world.specs.Laws.{NothingHeldBack};
 
 use crate::fault::WorldFault;
 
-/// After every list of events between editors whose names differ, what was sent and all that was
-/// taken has one operation under each dot, and each stands once in the list of what was sent, so no
-/// take meets another operation under its dot. What an edit makes is in its author's set, stays
-/// there until that editor restarts, and is ready there as long. Who has taken every sent operation
-/// holds nothing back.
+/// After every list of events between editors whose names differ, no two operations that were sent
+/// or taken have the same dot, and each sent one occurs once in the list of those sent; so no take
+/// meets another operation under its dot. An operation that an edit makes is in its author's set,
+/// stays there until that editor restarts, and is ready there as long. An editor that has taken
+/// every sent operation holds nothing back.
 pub fn histories()
     ensures one_under_each_dot { InEveryWorld OneUnderEachDot }
     ensures sent_once { InEveryWorld SentOnce }
@@ -26,10 +25,10 @@ pub fn histories()
     ensures nothing_held_back { InEveryWorld NothingHeldBack }
 {}
 
-/// Five histories of two editors, with what was sent and what each of them then sees
-/// (`specs/Examples.antt`): what was not saved is gone with a restart, and its number is given
-/// again; a restart takes back what was taken and made since the last save; what comes before what
-/// it needs waits, until that comes; what was saved twice was sent once.
+/// Five histories of two editors, with what was sent and the session of each
+/// (`specs/Examples.antt`): what was not saved is lost by a restart, and its number is given again;
+/// a restart undoes what was taken and made since the last save; an operation that arrives before
+/// what it needs waits until that arrives; what was saved twice was sent once.
 pub fn worked_histories()
     ensures restarted_world { RestartedWorld }
     ensures lost_removal { LostRemoval }
@@ -38,7 +37,7 @@ pub fn worked_histories()
     ensures saved_twice { SavedTwice }
 {}
 
-/// Faults are equal where they are of one case and name the same index.
+/// Faults are equal if they are of one case and have the same index.
 pub fn equal_world_faults(fault: &WorldFault, other: &WorldFault) -> bool
     ensures { IsTrue result ↔ (fault.now ≡ other.now) }
 {

@@ -1,8 +1,8 @@
 //! Worlds: editors that work, save, send and crash, one event after another.
 //!
 //! A world begins with editors of different names that have taken nothing. Each event is one step
-//! of one of them: an edit, a save, which also sends what was not sent before, a take of something
-//! that was sent, or a restart, which drops what was not saved:
+//! of one of them: an edit, a save, which also sends what was not sent before, a take of a sent
+//! operation, or a restart, which drops what was not saved:
 //!
 //! ```rust
 //! use mt_op::Title;
@@ -31,18 +31,19 @@
 //! }
 //! ```
 //!
-//! `run` refuses names of which two are equal (48), and want of memory (0). An edit that an editor
-//! refuses changes nothing, nor does an event that names no editor or nothing that was sent.
+//! `run` fails if two names are equal (48), and if out of memory (0). An edit that an editor
+//! refuses changes nothing, and neither does an event whose editor or sent operation does not
+//! exist.
 //!
 //! Whatever is lost, repeated, reordered or dropped by a restart, no dot ever names two operations
-//! that were sent or are taken, each editor's own operations are ready for it, and who has taken
-//! all that was sent holds nothing back: `laws::histories` says so of every list of events.
-//! `specs/World.antt` is what it speaks of. What it asks of a program is that each name is one
-//! editor's, who works at one place at a time, and that an editor saves before it sends.
+//! that were sent or are taken, each editor's own operations are ready for it, and an editor that
+//! has taken all that was sent holds nothing back: `laws::histories` has this for every list of
+//! events, and `specs/World.antt` has its definitions. A program must ensure that each name belongs
+//! to one editor, who works at one place at a time, and that an editor saves before it sends.
 //!
-//! What a run costs: an edit or a take what it costs an editor, and a note in the log of what is
-//! not saved; a save what was taken since the last one, found among what was sent by its dot; a
-//! restart a copy of what was saved, and the editor made of it.
+//! The cost of a run: an edit or a take costs what it costs an editor, and adding the operation to
+//! the log of unsaved ones; a save costs the operations taken since the last one, each looked up by
+//! its dot among those sent; a restart costs a copy of what was saved, and an editor made from it.
 #![tactic(auto)]
 
 mod event;

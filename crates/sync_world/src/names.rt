@@ -5,7 +5,7 @@ ghost use Rattle.sync_world.specs.Names.{NamesDiffer, StandsBefore, IsFirstRepea
 
 use mt_stamp::Replica;
 
-// Whether the name at this index stands before it too.
+// Whether the name at this index also occurs before it.
 fn stands_before(names: &[Replica], index: usize) -> bool
     requires { index < length names.now }
     ensures { IsTrue result ↔ StandsBefore names.now index }
@@ -13,7 +13,7 @@ fn stands_before(names: &[Replica], index: usize) -> bool
     names[..index].contains(&names[index])
 }
 
-/// The least index whose name stands before it too, if there is one.
+/// The least index whose name also occurs before it, if there is one.
 pub(crate) fn first_repeat(names: &[Replica]) -> Option<usize>
     ensures some { IfSome result (IsFirstRepeat names.now) }
     ensures none { result ≡ None → NamesDiffer names.now }

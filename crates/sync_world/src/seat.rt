@@ -20,7 +20,7 @@ use mt_stamp::Replica;
 use std::alloc::{AllocError, Allocator, Global};
 use std::mem;
 
-/// An editor, what it has saved, and what it has taken since: a save moves just that.
+/// An editor, what it has saved, and what it has taken since; a save moves only the latter.
 #[derive(Drop)]
 pub(crate) struct Peer<A: Allocator = Global> {
     pub(crate) editor: Editor<A>,
@@ -37,7 +37,7 @@ impl<A: Allocator + Clone> Peer<A> {
         Peer::of_saved(alloc, name, Log::new(alloc.clone()?))
     }
 
-    // An editor of this name that has taken and saved a log's operations.
+    // An editor of this name that has taken and saved the operations of a log.
     fn of_saved(alloc: &A, name: Replica, saved: Log<A>) -> Result<Self, AllocError>
         ensures ok { IfOk result (λ seat. peer_of seat ≡ record
             { name = name; taken = saved; saved = saved }) }
@@ -57,7 +57,7 @@ impl<A: Allocator + Clone> Peer<A> {
         }
     }
 
-    // Notes an operation that was taken under a new dot.
+    // Adds an operation that was taken under a new dot to the unsaved ones.
     fn apply(&mut self, op: Op<A>) -> Result<(), AllocError>
         requires new { map.get (union self.old.saved self.old.unsaved) (op_dot op) ≡ None }
         ensures editor { self.new.editor ≡ self.old.editor }
@@ -70,7 +70,7 @@ impl<A: Allocator + Clone> Peer<A> {
         }
     }
 
-    /// It makes an edit. One that is refused changes nothing.
+    /// The editor makes an edit. An edit that is refused changes nothing.
     pub fn edit(&mut self, change: &Change<A>) -> Result<(), AllocError>
         requires whole { IsWhole self.old }
         ensures ok { OnOk result (peer_of self.new ≡ edited (peer_of self.old) (edit_of change.now))
@@ -85,7 +85,7 @@ impl<A: Allocator + Clone> Peer<A> {
         }
     }
 
-    // It takes an operation. Where one stands under its dot nothing changes.
+    // The editor takes an operation. If it has one under this dot nothing changes.
     fn take(&mut self, op: &Op<A>) -> Result<(), AllocError>
         requires whole { IsWhole self.old }
         ensures ok { OnOk result (peer_of self.new ≡ taking (peer_of self.old) (Some op.now)) }
@@ -102,7 +102,7 @@ impl<A: Allocator + Clone> Peer<A> {
         }
     }
 
-    /// It takes the sent operation of this number, if there is one.
+    /// The editor takes the sent operation at this index, if there is one.
     pub fn take_sent(&mut self, sent: &[Op<A>], number: usize) -> Result<(), AllocError>
         requires whole { IsWhole self.old }
         ensures ok { OnOk result (peer_of self.new ≡ taking (peer_of self.old)
@@ -115,8 +115,8 @@ impl<A: Allocator + Clone> Peer<A> {
         }
     }
 
-    /// What was sent, and what it has taken and was not sent, by rising dot. What it has saved was
-    /// sent.
+    /// The sent operations, with those that the editor has taken and that were not sent appended by
+    /// rising dot. What it has saved was already sent.
     pub fn send(&self, alloc: &A, sent: Sent<A>) -> Result<Sent<A>, AllocError>
         requires whole { IsWhole self.now }
         requires saved { (o : OpValue) → Has self.now.saved o → is_sent sent o ≡ true }
@@ -128,7 +128,7 @@ impl<A: Allocator + Clone> Peer<A> {
         sent.with(alloc, &self.unsaved)
     }
 
-    /// It saves what it has taken.
+    /// The editor saves what it has taken.
     pub fn save(&mut self, alloc: &A) -> Result<(), AllocError>
         requires whole { IsWhole self.old }
         ensures ok { OnOk result (peer_of self.new ≡ saving (peer_of self.old)) }
@@ -145,7 +145,7 @@ impl<A: Allocator + Clone> Peer<A> {
         }
     }
 
-    /// It begins anew with what it has saved.
+    /// The editor restarts with what it has saved.
     pub fn restart(&mut self, alloc: &A) -> Result<(), AllocError>
         ensures ok { OnOk result (peer_of self.new ≡ restarted (peer_of self.old)) }
         ensures whole { OnOk result (IsWhole self.new) }
@@ -156,7 +156,7 @@ impl<A: Allocator + Clone> Peer<A> {
     }
 }
 
-// The log of an editor has each operation under its own dot, and these name older ones.
+// The log of an editor has each operation under its own dot, and each names only older ones.
 fn holds_a_set<A: Allocator>(editor: &Editor<A>)
     ensures { IfSome editor.now.log IsSet }
 {

@@ -1,4 +1,4 @@
-//! What was sent.
+//! The sent operations.
 
 ghost use Rattle.std.specs.Prelude.{◌≡◌, ◌++◌, ◌∷◌, [], IfOk};
 ghost use Rattle.sync_world.specs.World.{is_sent, unsent};
@@ -9,8 +9,8 @@ use mt_opcodec::{Log, LogFault};
 use std::alloc::{AllocError, Allocator, Global};
 use std::marker::Model;
 
-/// The operations that were sent, in the order in which they were, with a log that finds them by
-/// their dots. Seen as their list.
+/// The operations that were sent, in the order of their sending, with a log that finds them by
+/// their dots. Its value is their list.
 #[derive(Drop)]
 pub(crate) struct Sent<A: Allocator = Global> {
     ops: Vec<Op<A>, A>,
@@ -34,12 +34,12 @@ impl<A: Allocator> Sent<A> {
     pub fn ops(&self) -> &[Op<A>]
         ensures { result.now ≡ self.now }
     {
-        // for the proof: that the operations are those of what was sent as a whole
+        // for the proof: reading both fields shows that the operations are those sent
         let _ = &self.by_dot;
         &self.ops
     }
 
-    // Whether an operation of this one's dot was sent.
+    // Whether an operation with this one's dot was sent.
     fn has(&self, op: &Op<A>) -> bool
         ensures { result ≡ is_sent self.now op.now }
     {
@@ -50,7 +50,7 @@ impl<A: Allocator> Sent<A> {
 }
 
 impl<A: Allocator + Clone> Sent<A> {
-    /// Nothing yet.
+    /// No operation.
     pub fn new(alloc: &A) -> Result<Self, AllocError>
         ensures ok { IfOk result (λ sent. sent ≡ []) }
     {
@@ -74,7 +74,7 @@ impl<A: Allocator + Clone> Sent<A> {
         Ok(ops)
     }
 
-    /// With the operations of a log that were not sent, by rising dot.
+    /// The sent operations, with those of a log that were not sent appended by rising dot.
     pub fn with(self, alloc: &A, log: &Log<A>) -> Result<Self, AllocError>
         ensures ok { IfOk result (λ sent. sent ≡ self ++ unsent self log.now) }
     {
@@ -96,7 +96,7 @@ pub(crate) fn copy_of<A: Allocator + Clone>(op: &Op<A>) -> Result<Op<A>, AllocEr
     }
 }
 
-// A log with an operation of one more dot. One that stands there stays.
+// A log with an operation added. An operation that it has under this dot stays.
 fn with_dot<A: Allocator + Clone>(log: Log<A>, op: &Op<A>) -> Result<Log<A>, AllocError>
     ensures ok { IfOk result (AddsDots log (op.now ∷ [])) }
 {
@@ -108,7 +108,7 @@ fn with_dot<A: Allocator + Clone>(log: Log<A>, op: &Op<A>) -> Result<Log<A>, All
     }
 }
 
-// A log with operations of the dots of these.
+// A log with operations added. Operations that it has under their dots stay.
 fn with_dots<A: Allocator + Clone>(log: Log<A>, ops: &[Op<A>]) -> Result<Log<A>, AllocError>
     ensures ok { IfOk result (AddsDots log ops.now) }
 {

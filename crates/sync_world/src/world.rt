@@ -43,8 +43,8 @@ impl<A: Allocator> Model for World<A> {
 }
 
 impl<A: Allocator> World<A> {
-    /// An editor, counted from 0, or `None` where there are no more. Its log is what it has taken,
-    /// and its session that of its log.
+    /// The editor at an index, counted from 0, or `None` if there is none. Its log is what it has
+    /// taken, and its session that of its log.
     pub fn editor(&self, index: usize) -> Option<&Editor<A>>
         ensures name { option_map (λ editor. editor.name) (option_copied result)
             ≡ name_at self.now index }
@@ -57,20 +57,20 @@ impl<A: Allocator> World<A> {
         }
     }
 
-    /// The operations that were sent, in the order in which they were.
+    /// The operations that were sent, in the order of their sending.
     pub fn sent(&self) -> &[Op<A>]
         ensures { result.now ≡ self.now.sent }
     {
-        // for the proof: that what was sent is what the world as a whole has sent
+        // for the proof: reading both fields shows that this is what the world has sent
         let _ = &self.seats;
         self.sent.ops()
     }
 }
 
 impl<A: Allocator + Clone> World<A> {
-    /// The world of editors of these names after these events, one after another. Refused as
-    /// `SameName` (48) with the least index whose name stands before it, and as `Memory` (0) where
-    /// an allocation failed: then there is no world.
+    /// The world of editors with these names after these events, one after another. Fails with
+    /// `SameName` (48) and the least index whose name also occurs before it, and with `Memory` (0)
+    /// if an allocation failed: then there is no world.
     pub fn run(alloc: A, names: &[Replica], events: &[Event<A>]) -> Result<Self, WorldFault>
         ensures { RunGives names.now (list_map event_value events.now) result }
     {
@@ -80,7 +80,7 @@ impl<A: Allocator + Clone> World<A> {
         }
     }
 
-    // The world of editors of these names after these events.
+    // The world of editors with these names after these events.
     fn after(alloc: A, names: &[Replica], events: &[Event<A>]) -> Result<Self, AllocError>
         ensures ok { IfOk result (λ world. world ≡ world_of names.now
             (list_map event_value events.now)) }
@@ -92,7 +92,7 @@ impl<A: Allocator + Clone> World<A> {
         Ok(world)
     }
 
-    // Editors of these names that have taken nothing.
+    // Editors with these names that have taken nothing.
     fn start(alloc: A, names: &[Replica]) -> Result<Self, AllocError>
         ensures ok { IfOk result (λ world. world ≡ start names.now) }
     {
@@ -105,7 +105,7 @@ impl<A: Allocator + Clone> World<A> {
         Ok(World { alloc, seats, sent })
     }
 
-    // One event.
+    // The world after one more event.
     fn step(self, event: &Event<A>) -> Result<Self, AllocError>
         ensures ok { IfOk result (λ world. world ≡ step self (event_value event.now)) }
     {

@@ -5,7 +5,7 @@ use Rattle.std.specs.Str.{bytes_eq}
 use Rattle.byteorder.specs.Endian.{little_bytes}
 use Rattle.mt_bwfread.specs.Riff.{u32_at, Chunk, chunks_of, rest_of, content_of}
 
--- The bytes are chunks, whatever stands behind them, and none of these is a chunk data.
+-- The bytes are complete chunks, whatever follows them, and none of these is a chunk data.
 pub record AreOthers (bytes : List ℕ) : Type 0 where
   pub chunks : List Chunk
   pub walk : (behind : List ℕ) → chunks_of (bytes ++ behind) ≡ chunks ++ chunks_of behind
@@ -13,7 +13,7 @@ pub record AreOthers (bytes : List ℕ) : Type 0 where
   pub none : content_of (codes "data") chunks ≡ None
 
 -- A file that begins with these bytes is a wave file so far, its first chunk data begins at this
--- place, says so many bytes, and ends within the RIFF chunk.
+-- index, has this size, and ends within the RIFF chunk.
 pub record BeginsSamples (front : List ℕ) (at len : ℕ) : Type 0 where
   pub from : 12 ≤ at
   pub within : at + 8 ≤ length front
@@ -25,7 +25,7 @@ pub record BeginsSamples (front : List ℕ) (at len : ℕ) : Type 0 where
   pub room : at + len ≤ u32_at 4 front
   pub small : u32_at 4 front < 2 ^ 32
 
--- the front up to the samples, where the RIFF chunk and the chunk data say so many bytes fewer
+-- the front up to the samples, with the sizes of the RIFF chunk and the chunk data reduced by `cut`
 abbrev pub head_of : List ℕ → ℕ → ℕ → List ℕ
 head_of front at cut =
     take 4 front ++ (little_bytes 4 (u32_at 4 front - cut)

@@ -1,4 +1,4 @@
-//! Where the samples of a wave file begin.
+//! The place where the samples of a wave file begin.
 
 ghost use Rattle.std.specs.Prelude.{◌≡◌, ◌≤◌, ◌+◌, length, IfSome};
 ghost use Rattle.mt_bwfread.specs.Riff.{u32_at};
@@ -6,14 +6,15 @@ ghost use Rattle.wave_header.specs.Fronts.{BeginsSamples};
 
 use byteorder::{ByteOrder, LittleEndian};
 
-/// The first chunk `data` of a wave file: where it begins, and how many bytes of samples it says.
+/// The first chunk `data` of a wave file: where it begins, and the number of bytes of samples in
+/// its size field.
 #[derive(Clone, Copy)]
 pub(crate) struct Samples {
     pub(crate) at: usize,
     pub(crate) len: usize,
 }
 
-/// The number of four bytes from a place on, the lowest byte first.
+/// The little-endian number in the four bytes from an index on.
 pub(crate) fn u32_at(bytes: &[u8], at: usize) -> u32
     requires { at + 4 ≤ length bytes.now }
     ensures { result ≡ u32_at at bytes.now }
@@ -21,8 +22,8 @@ pub(crate) fn u32_at(bytes: &[u8], at: usize) -> u32
     LittleEndian::read_u32(&bytes[at..])
 }
 
-/// The first chunk `data`, where a file that begins with these bytes is a wave file so far, and
-/// that chunk begins in them and ends within the RIFF chunk.
+/// The first chunk `data`, if a file that begins with these bytes is a wave file so far, and that
+/// chunk begins in them and ends within the RIFF chunk.
 pub(crate) fn samples_in(front: &[u8]) -> Option<Samples>
     ensures { IfSome result (λ s. BeginsSamples front.now s.at s.len) }
 {

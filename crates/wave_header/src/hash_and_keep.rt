@@ -1,4 +1,4 @@
-//! A file on its way: all of it into its digest, and some of it kept.
+//! A file being read: all of it is hashed, and some of it kept.
 
 ghost use Rattle.std.specs.Prelude.{◌≡◌, ◌<◌, ◌≤◌, ◌++◌, ◌-◌, true, false, is_err, IfOk, IfErr};
 ghost use Rattle.std.specs.Prelude.{OnOk, OnSome, Some, length, drop, take};
@@ -13,10 +13,10 @@ use base_sha256::Sha256Stream;
 use std::alloc::{AllocError, Allocator};
 use std::io::Read;
 
-/// How many bytes are read, hashed and kept at once: whole blocks of the digest.
+/// The number of bytes that are read, hashed and kept at once: whole blocks of the digest.
 pub(crate) const PIECE: usize = 65_536;
 
-// Reads until a piece is full or the input is at its end, and tells how many bytes came.
+// Reads until a piece is full or the input is at its end, and returns the number of bytes read.
 fn fill<R: Read>(input: &mut Latch<R>, piece: &mut [u8]) -> Result<usize, LatchFault>
     requires some { 0 < length piece.old }
     ensures size { length piece.new ≡ length piece.old }
@@ -42,19 +42,19 @@ fn fill<R: Read>(input: &mut Latch<R>, piece: &mut [u8]) -> Result<usize, LatchF
     Ok(filled)
 }
 
-/// What has come of a file so far.
+/// The state of a file after some of its bytes were read.
 #[derive(Drop)]
 pub(crate) struct HashAndKeep<A: Allocator> {
-    /// What is kept of it.
+    /// The bytes that are kept.
     pub(crate) kept: Vec<u8, A>,
-    /// How many of the bytes to come are not kept.
+    /// The number of the next bytes that are not kept.
     pub(crate) skip: usize,
-    /// All of it.
+    /// The hash of all bytes.
     pub(crate) sha256_stream: Sha256Stream,
 }
 
 impl<A: Allocator> HashAndKeep<A> {
-    // Keeps a piece, but for the bytes that are to be skipped.
+    // Keeps a piece, except for the bytes to be skipped.
     fn keep(&mut self, piece: &[u8]) -> Result<(), AllocError>
         ensures kept { OnOk result (self.new.kept.items ≡ self.old.kept.items
             ++ drop self.old.skip piece.now) }
@@ -66,8 +66,8 @@ impl<A: Allocator> HashAndKeep<A> {
         self.kept.extend_from_slice(&piece[skipped..])
     }
 
-    /// Takes the next piece, and tells the digest of all where the file ends with it. The piece is
-    /// room to read into.
+    /// Takes the next piece, and returns the digest of all bytes if the file ends with it. `piece`
+    /// is the buffer to read into.
     pub(crate) fn take<R: Read>(
         &mut self,
         input: &mut Latch<R>,
@@ -92,8 +92,8 @@ impl<A: Allocator> HashAndKeep<A> {
         Ok(None)
     }
 
-    /// Takes at most so many pieces, and tells the digest of all where the file ends with the last
-    /// of them.
+    /// Takes at most this many pieces, and returns the digest of all bytes if the file ends with
+    /// the last of them.
     #[tactic(auto, using(crate::proofs::Passages::nothing, crate::proofs::Passages::goes_on))]
     pub(crate) fn take_some<R: Read>(
         &mut self,
@@ -116,7 +116,7 @@ impl<A: Allocator> HashAndKeep<A> {
         Ok(None)
     }
 
-    /// Takes all pieces to the end, and tells the digest of all.
+    /// Takes all pieces to the end, and returns the digest of all bytes.
     #[tactic(auto, using(crate::proofs::Passages::nothing, crate::proofs::Passages::goes_on))]
     pub(crate) fn take_all<R: Read>(
         &mut self,

@@ -13,19 +13,19 @@ use mt_bwfread::Wave;
 use std::alloc::{AllocError, Allocator, Global};
 use std::io::Read;
 
-// How many pieces are read before the samples are looked for: a MiB.
+// The number of pieces that are read before the samples are searched for: 1 MiB in all.
 const FRONT_PIECES: usize = 16;
 
-/// A wave file without its samples, with the digest of all of it.
+/// A wave file without its samples (an outline), with the digest of the whole file.
 #[derive(Drop)]
 pub struct WaveHeader<A: Allocator = Global> {
     kept: Vec<u8, A>,
-    // How many bytes the samples have in the file, where they are left out.
+    // The number of bytes of the samples in the file, if they are left out.
     samples: Option<u32>,
     digest: [u8; 32],
 }
 
-// A number in four bytes, the lowest first.
+// A little-endian number in four bytes.
 fn four_bytes(number: u32) -> [u8; 4]
     ensures { result ≡ little_bytes 4 number }
 {
@@ -34,7 +34,7 @@ fn four_bytes(number: u32) -> [u8; 4]
     bytes
 }
 
-// The front of a file up to its samples, of which so many bytes are left out.
+// The front of a file up to its samples, whose sizes leave out `cut` bytes of them.
 fn head_of<A: Allocator>(
     alloc: A,
     front: &[u8],
@@ -57,7 +57,7 @@ impl<A: Allocator + Clone> WaveHeader<A> {
     ghost use Rattle.base_sha256.specs.Pieces.{Holds};
     ghost use Rattle.wave_header.specs.WaveHeader.{Gives, Outlines, ReadsToEnd};
 
-    // Reads what stands behind the front of a file, and keeps all of it.
+    // Reads the rest of a file after its front, and keeps all of it.
     #[tactic(auto, using(crate::proofs::Outlining::keeps_all))]
     fn keep_all<R: Read>(
         front: HashAndKeep<A>,
@@ -79,9 +79,9 @@ impl<A: Allocator + Clone> WaveHeader<A> {
         })
     }
 
-    // Reads what stands behind the front of a file, and leaves out its samples, but for one byte
-    // where their number is odd: so the pad byte behind them is one still. Where the file ends
-    // before its samples do, its front says so too, and is kept.
+    // Reads the rest of a file after its front, and leaves out its samples, except for one byte if
+    // their number is odd: so the pad byte after them is still one. If the file ends before its
+    // samples do, its front is kept, which has the same fault.
     fn leave_out<R: Read>(
         alloc: A,
         front: HashAndKeep<A>,
@@ -120,7 +120,7 @@ impl<A: Allocator + Clone> WaveHeader<A> {
         })
     }
 
-    // Reads what stands behind the front of a file.
+    // Reads the rest of a file after its front.
     fn read_behind<R: Read>(
         alloc: A,
         front: HashAndKeep<A>,
@@ -141,14 +141,14 @@ impl<A: Allocator + Clone> WaveHeader<A> {
         }
     }
 
-    /// Reads a wave file to its end. Its samples are not kept where they begin in its first MiB
-    /// (1,048,576 bytes), so the outline takes at most that MiB twice and what stands behind them;
-    /// where they begin later, it takes all of the file. What is no wave file has an outline as
-    /// well, which `Wave::read` refuses as it refuses the file.
+    /// Reads a wave file to its end. If its samples begin in its first MiB (1,048,576 bytes) they
+    /// are not kept: the outline then takes at most that MiB twice and the bytes after the samples.
+    /// If they begin later it takes all of the file. A file that is not a wave file also has an
+    /// outline, for which `Wave::read` returns the same error as for the file.
     ///
-    /// `Read` (45) where the latch has failed, before or in this call; `Memory` (0) where an
-    /// allocation failed, and the latch has not failed in this call. Either way the bytes that were
-    /// read by then are gone.
+    /// Fails with `Read` (45) if the latch has failed, before or in this call, and with `Memory`
+    /// (0) if an allocation failed; the latch has then not failed in this call. Either way the
+    /// bytes that were read are lost.
     #[tactic(auto, using(crate::proofs::Outlining::gives_front, crate::proofs::Outlining::gives_behind))]
     pub fn read<R: Read>(alloc: A, input: &mut Latch<R>) -> Result<WaveHeader<A>, LatchFault>
         ensures header { IfOk result (λ o. Gives (R.remaining input.old.inner) o) }
@@ -177,7 +177,7 @@ impl<A: Allocator> WaveHeader<A> {
     ghost use Rattle.mt_bwfread.specs.Wave.{IsWave, frames_of};
     ghost use Rattle.wave_header.specs.WaveHeader.{IsWaveHeader};
 
-    /// The file without its samples: what `Wave::read` reads off it is what stands in the file, but
+    /// The file without its samples: `Wave::read` reads the same from it as from the file, except
     /// for the number of frames and the samples.
     pub fn bytes(&self) -> &[u8]
         ensures { result.now ≡ self.now.kept.items }
@@ -192,8 +192,8 @@ impl<A: Allocator> WaveHeader<A> {
         self.digest
     }
 
-    /// The frames of the whole file: the samples of one channel. `wave` is what is read off the
-    /// bytes of this outline.
+    /// The number of frames of the whole file: of samples in one channel. `wave` must be read from
+    /// the bytes of this outline.
     pub fn frames(&self, wave: &Wave<'_>) -> u64
         requires { wave.now ≡ self.now.kept.items }
         ensures value { (text : List ℕ) → IsWaveHeader text self.now → IsWave text → result

@@ -6,7 +6,7 @@ ghost use Rattle.mt_bwfread.specs.Extension.{bext_of};
 ghost use Rattle.mt_bwfread.specs.Cues.{points_of, lengths_of, labels_of, cues_of};
 ghost use Rattle.wave_header.specs.WaveHeader.{SayTheSame};
 
-/// Files that say the same of all but their samples have the same format, the same broadcast
+/// Files with the same data apart from their samples have the same format, the same broadcast
 /// extension and the same cue points.
 pub fn say_the_same()
     ensures rate { (kept text : List ℕ) → SayTheSame kept text → rate_of kept ≡ rate_of text }

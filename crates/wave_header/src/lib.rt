@@ -1,4 +1,4 @@
-//! All that a wave file says of itself, read with no sample of it kept.
+//! Reads all data of a wave file except its samples.
 //!
 //! ```rust
 //! use mt_bwfread::Wave;
@@ -7,7 +7,8 @@
 //! use std::test::Fail;
 //!
 //! // Two frames of 16 bits on one channel, 48,000 a second.
-//! const FILE: &[u8] = b"RIFF\x28\0\0\0WAVEfmt \x10\0\0\0\x01\0\x01\0\x80\xbb\0\0\0\x77\x01\0\x02\0\x10\0\
+//! const FILE: &[u8] = b"RIFF\x28\0\0\0WAVE\
+//! fmt \x10\0\0\0\x01\0\x01\0\x80\xbb\0\0\0\x77\x01\0\x02\0\x10\0\
 //! data\x04\0\0\0\x01\0\xff\xff";
 //!
 //! fn reads_an_outline(rt: HostRuntime) -> Result<(), Fail> {
@@ -20,10 +21,10 @@
 //! }
 //! ```
 //!
-//! An outline is a file of its own: the same chunks in the same order, but where the samples begin
-//! in the first MiB, at most one byte of them is left. So what `mt_bwfread` reads off it is what
-//! stands in the file: the refusal, the format, the broadcast extension and the cue points. The
-//! number of frames and the digest of the whole file stand beside it.
+//! An outline is itself a wave file: the same chunks in the same order, but if the samples begin in
+//! the first MiB, at most one byte of them is left. So `mt_bwfread` reads the same from it as from
+//! the file: the error, the format, the broadcast extension and the cue points. The outline also
+//! has the number of frames and the digest of the whole file.
 #![tactic(auto)]
 
 mod front;
