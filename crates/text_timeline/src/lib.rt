@@ -6,7 +6,7 @@
 //! use mt_opcodec::Log;
 //! use mt_sessionview::from_scratch;
 //! use mt_stamp::{Replica, Stamp};
-//! use text_timeline::{Lengths, timeline_text};
+//! use text_timeline::{SpanUnits, timeline_text};
 //! use std::test::Fail;
 //!
 //! const TEXT: &[u8] = b"\
