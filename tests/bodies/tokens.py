@@ -105,6 +105,21 @@ def import_of(tokens):
     return tuple(one for part in parts for one in part)
 
 
+def imports_of(tokens):
+    """An import of several names of one module as one of each."""
+    if tokens.count("{") != 1:
+        return [import_of(tokens)]
+    start, end = tokens.index("{"), tokens.index("}")
+    items = [[]]
+    for token in tokens[start + 1 : end]:
+        if token == ",":
+            items.append([])
+        else:
+            items[-1].append(token)
+    alone = (tokens[: start + 1] + item + tokens[end:] for item in items if item)
+    return [import_of(one) for one in alone]
+
+
 def tokens_of(path, text, names):
     """The tokens of a text, with old names in the place of new ones, and imports that stand one after
     another in one order."""
@@ -119,7 +134,7 @@ def tokens_of(path, text, names):
         if between:
             made += sorted(block, key=repr) + between
             block = []
-        block.append(import_of(renamed_import(kind, plain_tokens(kind, found.group()), scope)))
+        block += imports_of(renamed_import(kind, plain_tokens(kind, found.group()), scope))
         at = found.end()
     rest = renamed(kind, plain_tokens(kind, text[at:]), scope)
     return made + sorted(block, key=repr) + rest
