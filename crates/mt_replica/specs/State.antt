@@ -29,7 +29,7 @@ pub record StateValue : Type 0 where
   pub shown : Bool
 
 -- Each operation of a log was offered to the hold-back, which has not failed.
-pub record HoldsBack (log : LogMap) (waiting : holding.HoldBackValue Op) : Type 0 where
+pub record HoldsBack (log : LogMap) (waiting : holding.HoldBack Op) : Type 0 where
   pub whole : waiting.failed ≡ false
   pub offered : (f : Op → ℕ) → sum_by f (all_offered waiting.contents) ≡ sum_by f (operations log)
 
