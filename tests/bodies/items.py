@@ -1,8 +1,13 @@
 """The items of a source file, and of a module of definitions or proofs, and those that a set of
 words reaches: a type, a constant, an interface or a definition by its name; an `impl` by the names
-of its type and its interface; and by the words of what is reached what these name in turn."""
+of its type and its interface; and by the words of what is reached what these name in turn.
+
+A word that a contract, a definition or a proof names without a path has a mark: a record may have
+the name of the type that is seen as it. Where no definition has that name, it is a type's."""
 import functools
 import re
+
+from bodies.tokens import REMARK, SORTED, in_contracts, is_of_contract, kind_of, plain_tokens
 
 # The first line of an item of a source that others reach by a name.
 NAMED = re.compile(
@@ -20,9 +25,19 @@ MARKS = r"(?:(?:abbrev|unfoldable|pub|opaque|instance)\s+)*"
 DEFINED = re.compile(MARKS + r"(?:(?:record|data)\s+)?([^\s:({]+)")
 INNER = re.compile(r"(?m)^ +%s(?:(?:record|data)\s+)?([^\s:({]+)(?:\s[^\n:=]*)? :" % MARKS)
 WORD = re.compile(r"\w+")
+# What a source names for its proofs.
+TACTIC = re.compile(r"#!?\[tactic\((.*?)\)\]", re.S)
 # A name where a method of that name may be meant: it is called, without a space as `rt fmt` lays
 # it out, or stands behind a path.
 CALLED = re.compile(r"\.(\w+)(?=\(|::)|::(\w+)")
+
+
+# behind a word that a contract, a definition or a proof names without a path
+MARK = "\u2032"
+
+
+def marked(name):
+    return name + MARK
 
 
 def words_in(text):
@@ -34,10 +49,36 @@ def as_called(name):
     return name + "()"
 
 
-def calls_in(text):
-    """The words of a text, and those of the methods that it may call."""
-    called = (one or other for one, other in CALLED.findall(text))
-    return words_in(text).union(map(as_called, called))
+@functools.lru_cache(maxsize=None)
+def words_of(kind, text):
+    """The words of a text of this kind, with marks, and those of the methods that it may call."""
+    text = REMARK[kind].sub(lambda found: found.group(1) or "", text) if kind in REMARK else text
+    found = {as_called(one or other) for one, other in CALLED.findall(text)}
+    found.update(marked(word) for one in TACTIC.findall(text) for word in WORD.findall(one))
+
+    def add(tokens, where, is_import=False):
+        for token, before, here in zip(tokens, [""] + tokens, where):
+            if WORD.fullmatch(token):
+                if not here or before == ".":
+                    found.add(token)
+                if here and (before != "." or not is_import):
+                    found.add(marked(token))
+
+    at = 0
+    for one in re.finditer(SORTED[kind], text, re.M) if kind in SORTED else ():
+        tokens = plain_tokens(kind, one.group())
+        between = plain_tokens(kind, text[at : one.start()])
+        add(between, in_contracts(kind, between))
+        add(tokens, [is_of_contract(tokens)] * len(tokens), True)
+        at = one.end()
+    rest = plain_tokens(kind, text[at:])
+    add(rest, in_contracts(kind, rest))
+    return frozenset(found)
+
+
+def calls_in(path, text):
+    """The words of a file, and those of the methods that it may call."""
+    return words_of(kind_of(path), text)
 
 
 class Item:
@@ -45,26 +86,51 @@ class Item:
     or none where they always do; of an `impl` also the words of its head, without the parameters
     that it begins with and its bounds."""
 
-    def __init__(self, text, names, head=None):
-        self.text, self.words, self.head = text, words_in(text), head
-        self.names = [words_in(name) for name in names]
+    def __init__(self, kind, text, names, head=None):
+        self.kind, self.text, self.head = kind, text, head
+        self.words = words_of(kind, text).union(names if kind == ".rt" else ())
+        mark = marked if kind == ".antt" else str
+        self.names = [frozenset(map(mark, words_in(name))) for name in names]
+
+    def ways(self, of_logic):
+        """The sets of words of which one reaches it, where these names are those of definitions."""
+        ways = self.names or [frozenset()]
+        if self.kind == ".rt" and self.names:
+            ways = ways + [frozenset(map(marked, way)) for way in ways if not way & of_logic]
+        return ways
 
 
 class File:
     """A file: its items, and its imports, each with the names that it gives the file."""
 
     def __init__(self, kind, text):
+        self.kind = kind
         self.uses = [(line, given_names(line)) for line in re.findall(USES[kind], text)]
         rest = re.sub(USES[kind], "", text)
         self.items = source_items(rest) if kind == ".rt" else logic_items(rest)
         self.known = {}
 
-    def imports(self, text):
+    def imports(self, text, of_logic):
         """Those of its imports that a text needs, with the names that it has."""
-        if text not in self.known:
-            needed = [(line, names) for line, names in self.uses if has_any(text, names)]
-            self.known[text] = [of_names(line, names, text) for line, names in needed]
-        return self.known[text]
+        if (text, of_logic) not in self.known:
+            found = []
+            for line, names in self.uses:
+                used = [name for name in names if self.has(line, name[0], text, of_logic)]
+                if used:
+                    found.append(of_names(line, names, used))
+            self.known[text, of_logic] = found
+        return self.known[text, of_logic]
+
+    def has(self, line, name, text, of_logic):
+        """Whether a text has a name that such an import gives."""
+        if name == "*":
+            return True
+        if not WORD.fullmatch(name):
+            return sign(name).search(text) is not None
+        words = words_of(self.kind, text)
+        if self.kind == ".antt" or line.startswith("ghost "):
+            return marked(name) in words
+        return name in words or marked(name) in words and name not in of_logic
 
 
 @functools.lru_cache(maxsize=None)
@@ -92,17 +158,12 @@ def sign(name):
     return re.compile("|".join(parts) or ".")
 
 
-def has_any(text, names):
-    return any(name == "*" or sign(name).search(text) for name, _ in names)
-
-
-def of_names(line, names, text):
-    """An import with those of its names that a text has."""
+def of_names(line, names, used):
+    """An import with some of its names."""
     if names[0][1] is None:
         return line
-    origin = line[: line.index("{")]
-    used = [how for name, how in names if name == "*" or sign(name).search(text)]
-    return "%s{%s}%s\n" % (origin, ", ".join(used), ";" if line.rstrip().endswith(";") else "")
+    origin, listed = line[: line.index("{")], ", ".join(how for _, how in used)
+    return "%s{%s}%s\n" % (origin, listed, ";" if line.rstrip().endswith(";") else "")
 
 
 def head_words(text):
@@ -122,9 +183,9 @@ def source_item(lines):
     first = next(one for one in lines if one and one[0] not in "# ")
     text = "\n".join(lines) + "\n"
     if IMPL.match(first):
-        return Item(text, [], head_words(text[text.index(first) :]))
+        return Item(".rt", text, [], head_words(text[text.index(first) :]))
     named = NAMED.match(first)
-    return Item(text, [named.group(1)] if named else [])
+    return Item(".rt", text, [named.group(1)] if named else [])
 
 
 def source_items(text):
@@ -144,7 +205,7 @@ def source_items(text):
                 if not EXPORT.match("\n".join(lines) + "\n"):
                     found.append(source_item(lines))
             lines, has_head = [], False
-    return found + ([Item("\n".join(lines) + "\n", [])] if lines else [])
+    return found + ([Item(".rt", "\n".join(lines) + "\n", [])] if lines else [])
 
 
 def logic_items(text):
@@ -154,7 +215,7 @@ def logic_items(text):
 
     def close():
         if lines:
-            found.append(Item("\n".join(lines) + "\n", names or []))
+            found.append(Item(".antt", "\n".join(lines) + "\n", names or []))
 
     for line in text.split("\n"):
         if line.strip() == "" or line.lstrip().startswith("--"):
@@ -177,18 +238,20 @@ def of_module(item):
     """A module of definitions and lemmas is reached by the name of each of them."""
     if not re.match(r"(pub )?module ", item.text):
         return item
-    return Item(item.text, INNER.findall(item.text))
+    return Item(".antt", item.text, INNER.findall(item.text))
 
 
 class Waiting:
     """Items that words have not reached yet, each listed under a word that it lacks."""
 
-    def __init__(self, words, defined):
-        self.words, self.defined, self.lists, self.new = set(words), defined, {}, []
+    def __init__(self, words, defined, of_logic):
+        self.words, self.defined, self.of_logic = set(words), defined, of_logic
+        self.lists, self.new = {}, []
 
     def lacks(self, item):
         """For each way to reach an item a word that is not there, if there is none yet."""
-        ways = [item.head & self.defined] if item.head is not None else item.names or [frozenset()]
+        of_impl = item.head is not None
+        ways = [item.head & self.defined] if of_impl else item.ways(self.of_logic)
         found = [next((word for word in way if word not in self.words), None) for way in ways]
         return [] if None in found else found
 
@@ -206,14 +269,14 @@ class Waiting:
                 self.add(path, item)
 
 
-def reached(files, words, load):
+def reached(files, words, load, of_logic):
     """What words reach of the texts of some files, by their paths: the imports and items that they
     reach, and nothing of a file of which they reach no item. `load` gives, by their paths, the
-    texts of the modules that a text names."""
+    texts of the modules that a text names; `of_logic` are the names of all definitions."""
     files = {path: file_of(kind_of(path), text) for path, text in files.items()}
     every = [(path, one) for path, file in files.items() for one in file.items]
     defined = frozenset(word for _, one in every for name in one.names for word in name)
-    waiting, kept = Waiting(words, defined), {path: set() for path in files}
+    waiting, kept = Waiting(words, defined, of_logic), {path: set() for path in files}
     for path, one in every:
         waiting.add(path, one)
     while waiting.new:
@@ -221,22 +284,34 @@ def reached(files, words, load):
         if id(one) in kept[path]:
             continue
         kept[path].add(id(one))
-        imports = files[path].imports(one.text)
-        renamed = {old for line in imports for old, _ in OTHER_NAME.findall(line)}
-        waiting.add_words(one.words | renamed)
+        imports = files[path].imports(one.text, of_logic)
+        waiting.add_words(one.words | other_names(kind_of(path), imports))
         for other, text in load("".join(imports) + one.text).items():
             if other not in files:
                 files[other], kept[other] = file_of(kind_of(other), text), set()
                 for item in files[other].items:
                     waiting.add(other, item)
-    return {path: text_of(files[path], found) for path, found in kept.items() if found}
+    return {path: text_of(files[path], found, of_logic) for path, found in kept.items() if found}
 
 
-def kind_of(path):
-    return ".rt" if path.endswith(".rt") else ".antt"
+def other_names(kind, imports):
+    """The names that imports bring in under other ones."""
+    found = set()
+    for line in imports:
+        of_contract = is_of_contract(plain_tokens(kind, line))
+        names = {old for old, _ in OTHER_NAME.findall(line)}
+        found |= set(map(marked, names)) if of_contract else names
+    return found
 
 
-def text_of(file, found):
+def text_of(file, found, of_logic):
     """A file's items that were reached, with the imports that they need."""
     text = "".join(one.text for one in file.items if id(one) in found)
-    return "".join(file.imports(text)) + text
+    return "".join(file.imports(text, of_logic)) + text
+
+
+@functools.lru_cache(maxsize=None)
+def defined_in(text):
+    """The names that a module of definitions or proofs gives."""
+    names = (DEFINED.match(line) for line in text.split("\n") if line[:1].strip())
+    return words_in(" ".join(one.group(1) for one in names if one))

@@ -16,7 +16,7 @@ import threading
 
 from bodies.edits import edits_of, texts_of
 from bodies.edits import functions as functions_read
-from bodies.items import NAMED, as_called, calls_in, head_words, reached, words_in
+from bodies.items import NAMED, as_called, calls_in, defined_in, head_words, reached, words_in
 
 TOP = os.path.dirname(os.path.dirname(os.path.dirname(os.path.abspath(__file__))))
 TRIED = os.path.join(TOP, "tests", "wrong_bodies.tried")
@@ -24,6 +24,9 @@ WRITING = threading.Lock()
 
 # What counts as refused: a line of wrong_bodies.tried holds by these rules alone.
 RULES = "by a goal that is open, once answers that fit no longer are left out"
+
+# Where a crate has its definitions and lemmas.
+PARTS = ("specs", "proofs")
 
 # Tests, which no round compiles, and their proofs.
 OF_TESTS = re.compile(r"/(src|proofs)/(\w+_)?tests(\.rt$|/)")
@@ -177,11 +180,11 @@ def own_texts(name, top, without):
         if {one.lstrip("+") for one in folders} & whole:
             texts[path] = text_of(path)
     sources = {path: text_of(path) for path in files_below(crate, "src")}
-    words = set(calls_in("\n".join(texts.values())))
+    words = set().union(*(calls_in(path, text) for path, text in texts.items()))
     for path, text in sources.items():
         lines = text.split("\n")
         for one in (one for one in functions(path, text) if one.name in whole):
-            words |= calls_in("\n".join(lines[one.first - 1 : one.last]))
+            words |= calls_in(path, "\n".join(lines[one.first - 1 : one.last]))
             words |= head_words(one.head) if one.head else set()
         if path in files:
             words.update(found.group(1) for line in lines for found in [NAMED.match(line)] if found)
@@ -192,7 +195,7 @@ def own_texts(name, top, without):
         one = re.sub(r"\bcrate::(proofs|specs)::", name + r"::\1::", one)
         if one:
             kept[path] = one
-    own = reached(kept, words, lambda text: modules(text, top))
+    own = reached(kept, words, lambda text: modules(text, top), names_of_logic(top))
     return texts, {path: text for path, text in own.items() if path in kept}
 
 
@@ -253,6 +256,14 @@ def files_below(top, *folders):
 
 
 @functools.lru_cache(maxsize=None)
+def names_of_logic(top):
+    """The names of all definitions and lemmas of a tree."""
+    folders = (os.path.join("crates", one, part) for one in crate_lines(top) for part in PARTS)
+    paths = (path for path in files_below(top, *folders) if path.endswith(".antt"))
+    return frozenset().union(*(defined_in(text_of(path)) for path in paths))
+
+
+@functools.lru_cache(maxsize=None)
 def without_remarks(path, text):
     """A text with neither remarks nor empty lines, which prove nothing, and no modules of tests."""
     if path.endswith(".rt"):
@@ -266,7 +277,7 @@ def covered(name, top=TOP, without=()):
     lines = crate_lines(top)
     others = [one for one in crates_below(name, lines) if one != name]
     fixed, own = own_texts(name, top, without)
-    words = calls_in("\n".join([*fixed.values(), *own.values()]))
+    words = set().union(*(calls_in(path, text) for path, text in {**fixed, **own}.items()))
     sources = files_below(top, *(os.path.join("crates", one, "src") for one in others))
     below = {path: for_callers(path, text_of(path), words) for path in sources}
     for path in own:
@@ -275,7 +286,8 @@ def covered(name, top=TOP, without=()):
     # what the wrong bodies and the proofs name, and all that is reached from it
     for text in [*fixed.values(), *own.values()]:
         below.update(modules(text, top))
-    texts = {**reached(below, words, lambda text: modules(text, top)), **own, **fixed}
+    there = reached(below, words, lambda text: modules(text, top), names_of_logic(top))
+    texts = {**there, **own, **fixed}
     texts = {path: without_remarks(path, text) for path, text in sorted(texts.items())}
     return {os.path.relpath(path, top): text for path, text in texts.items()}
 

@@ -1,15 +1,15 @@
 #!/usr/bin/env python3
 """Tries `tests/wrong_bodies.py --renamed MAP OLD`, and the draw of ten: tests/checks/record.py
 
-A small made-up tree is renamed: names, a file, a folder, a crate; imports in another order, a
-list on several lines, another remark. That is the same tokens, and each crate gets its line.
-Then one thing more changes: a body, a clause, two names that change places, a definition, a
-proof, a wrong body. Each of these has to be told, and the crate has to stay as it is; what none of
-its wrong bodies can name may change. So do maps that do not lead back without a doubt. Of two wrong bodies in one crate
-that one is tried which rests on what changed. At last the whole command runs
-in a repository, and so does `--changed`, with a stand-in for rt that refuses a body, admits it,
-or refuses it by an answer that fits no longer or by names alone: a drawn body that is not
-refused fails the run. It proves nothing."""
+A small made-up tree is renamed: names, a file, a folder, a crate; a record gets the name of its
+type; imports in another order, a list on several lines, another remark. That is the same tokens,
+and each crate gets its line. Then one thing more changes: a body, a clause, two names that change
+places, a definition, a proof, a wrong body. Each of these has to be told, and the crate has to stay
+as it is; what none of its wrong bodies can name may change. So do maps that do not lead back
+without a doubt. Of two wrong bodies in one crate that one is tried which rests on what changed. At
+last the whole command runs in a repository, and so does `--changed`, with a stand-in for rt that
+refuses a body, admits it, or refuses it by an answer that fits no longer or by names alone: a drawn
+body that is not refused fails the run. It proves nothing."""
 import os
 import re
 import shutil
@@ -63,7 +63,7 @@ ANSWERS = (
 )
 HIGH = (
     "use low::{Hand, Leg, added};\n\npub fn both(one: Hand, leg: Leg) -> u32\n"
-    "    ensures Rattle.low.specs.Sums.total one.left one.right ≡ result\n{\n"
+    "    ensures { Rattle.low.specs.Sums.total one.left one.right ≡ result }\n{\n"
     "    one.right();\n    leg.grown();\n    added(one.left, one.right)\n}\n"
 )
 EDIT = "edit: takes_away\nfile: src/lib.rt\nold:     one + other //\nnew:     one - other //\n"
@@ -86,14 +86,17 @@ OLD = {
 NAMES = {
     "low": "base", "added": "summed", "total": "entire", "Hand": "Arm", "hand": "arm",
     "Sums": "Whole", "one": "first", "takes_away": "subtracts"}
-# the record gets the type's name, and where a proof names both, the type's fields another one
+# The record gets the type's name, in clauses another one, and where a proof names both, so do the
+# type's fields; a method is renamed in the crates that name it.
 MAP = "".join("%s %s\n" % pair for pair in NAMES.items())
-MAP += "Limb Leg contract\nLeg Fields contract\n"
+MAP += "Limb Leg contract\nLimb LegValue clause\nLeg Fields contract\ngrown taller code @low,high\n"
 
 
 def new_names(text):
     text = text.replace("Leg.{Leg}", "Leg.{Leg as Fields}").replace("seen : Leg", "seen : Fields")
-    text = text.replace("Limb", "Leg")
+    if text.startswith("ghost use"):
+        text = text.replace("Sums.{Limb}", "Sums.{Leg as LegValue}").replace("Limb", "LegValue")
+    text = text.replace("Limb", "Leg").replace("grown", "taller")
     return re.sub(r"\w+", lambda word: NAMES.get(word.group(), word.group()), text)
 
 
@@ -136,7 +139,7 @@ CHANGES = {
     "a record in the place of a type's fields": (
         "base", "crates/base/proofs/summed/Answers.antt", "seen : Fields → Leg", "seen : Leg → Leg"),
     "another record in a clause": (
-        "high", "crates/base/src/leg.rt", "(l : Leg)", "(l : Fields)"),
+        "high", "crates/base/src/leg.rt", "(l : LegValue)", "(l : Fields)"),
     "a record that a clause of a method names": (
         "base high", "crates/base/specs/Whole.antt", "pub long : ℕ", "pub short : ℕ"),
     "a private field": ("", "crates/base/src/arm.rt", "    pub right: u32,\n",
@@ -157,6 +160,7 @@ BAD_MAPS = {
     "a word of OLD's contracts": "Limb total contract\n",
     "two to one in contracts": "Limb Leg contract\ntotal Leg contract\n",
     "a word of OLD's code": "Hand added code\n",
+    "a word of OLD in one crate": "both added @high\n",
 }
 
 
