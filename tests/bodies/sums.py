@@ -216,6 +216,9 @@ def of_names(line, words):
 def of_use(line, text):
     """Such a line with those of its names, and of its signs, that a text has; nothing where it has
     none."""
+    if "{" not in line and "::" not in line:
+        name = re.split(r"[\s.;]+", line.strip())[-2]
+        return line if re.search(r"(?<!\w)%s(?!\w)" % re.escape(name), text) else ""
     origin, names = parts_of_use(line)
     words = {name: re.escape(name.split(" ")[-1].strip("◌")) for name in names}
     used = [
