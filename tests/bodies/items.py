@@ -58,11 +58,12 @@ def words_of(kind, text):
 
     def add(tokens, where, is_import=False):
         for token, before, here in zip(tokens, [""] + tokens, where):
-            if WORD.fullmatch(token):
-                if not here or before == ".":
-                    found.add(token)
-                if here and (before != "." or not is_import):
-                    found.add(marked(token))
+            if not WORD.fullmatch(token) or is_import and before == ".":
+                continue
+            if not here or before == ".":
+                found.add(token)
+            if here:
+                found.add(marked(token))
 
     at = 0
     for one in re.finditer(SORTED[kind], text, re.M) if kind in SORTED else ():
