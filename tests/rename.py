@@ -102,7 +102,9 @@ def new_edits(text, scope):
     """The wrong bodies of a crate: their files, and the code in them; a wrong body has its name as a
     word of the code."""
     def line_of(line):
-        return re.sub(r"\w+", lambda word: scope.name(word.group(), "", False), line)
+        pieces = re.split(r'("(?:\\.|[^"\\])*")', line)
+        other = (re.sub(r"\w+", lambda word: scope.name(word.group(), "", False), one) for one in pieces)
+        return "".join(one if one.startswith('"') else new for one, new in zip(pieces, other))
 
     return "\n".join(line_of(line) for line in text.split("\n"))
 
