@@ -8,7 +8,7 @@ use Rattle.sync_framing.specs.Frames.{frame_text, cut_short, front_of}
 use Rattle.mt_sync.specs.declared.fault.TalkFault.{TalkFault}
 use Rattle.mt_sync.specs.declared.fault.TalkFault.TheVariants.{Memory, Failed, OutOfTurn}
 use Rattle.mt_sync.specs.declared.fault.TalkFault.TheVariants.{FrameTooLong}
-use Rattle.mt_sync.specs.declared.turn.Turn.{Turn as EditorValue}
+use Rattle.mt_sync.specs.declared.turn.Turn.{Turn as TurnFields}
 use Rattle.mt_sync.specs.declared.turn.Turn.TheVariants as kept
 use Rattle.sync_messages.specs.Summary.{summary_of}
 use Rattle.sync_messages.specs.Messages.{have_text}
@@ -17,7 +17,7 @@ use Rattle.mt_sync.specs.Conversation.{can_say, Turn, awaits_have, awaits_ops, e
 use Rattle.mt_sync.specs.Conversation.{Received, stop, receives}
 use Rattle.mt_sync.specs.Leaving.{IsLeft}
 
-abbrev pub turn_of : {A : Type 0} → Editor A → Turn
+abbrev pub turn_of : {A : Type 0} → TurnFields A → Turn
 turn_of (kept.AwaitsHave side) = awaits_have side
 turn_of (kept.AwaitsOps owed) = awaits_ops owed
 turn_of kept.Ended = ended
