@@ -7,7 +7,7 @@ copies the crates into a folder of its own, makes one crate of all examples ther
 and runs it by `rt try --test`; with names it runs those of these crates alone.
 
 It fails where an example does not compile, asserts nothing, uses a library that crates.txt does not list above its own, or fails when it
-runs, and where a library (a crate of crates.txt that is no program, and no `test_` crate) has none.
+runs, and where a library (a crate of crates.txt that is no program, and no crate of tests) has none.
 
 Examples are run and not proved: that a caller's proof has what it needs from the contracts is not shown, and a call that breaks a `requires`
 may pass. Each runs once, with ample memory and without optimisation, and only what it asserts is compared.
@@ -27,7 +27,12 @@ def libraries():
     """The names of the crates that are no program and no crate of tests, in the order of crates.txt."""
     with open(os.path.join(TOP, "crates.txt")) as file:
         names = [line.split(":")[0].strip() for line in file if ":" in line and not line.startswith("#")]
-    return [name for name in names if not name.startswith("test_") and not os.path.exists(file_of(name, "main.rt"))]
+    return [name for name in names if not is_of_tests(name) and not os.path.exists(file_of(name, "main.rt"))]
+
+
+def is_of_tests(name):
+    """Whether a crate has tests, and nothing that others use."""
+    return os.path.isdir(os.path.join(TOP, "crates", name, "src", "tests"))
 
 
 def file_of(name, file):
