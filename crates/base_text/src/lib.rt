@@ -4,14 +4,14 @@
 //! use base_text::{append_number, append_word, are_digits, cut, cut_line};
 //! use std::test::Fail;
 //!
+//! const TEXT: &[u8] = b"gain 3/4\nmute on";
+//!
 //! fn cuts_and_appends(rt: HostRuntime) -> Result<(), Fail> {
-//!     let text = b"gain 3/4\nmute on";
-//!     let (line, others) = cut_line(text);
-//!     assert!(rt; line == b"gain 3/4");
-//!     assert!(rt; others == b"mute on");
+//!     let (line, others) = cut_line(TEXT);
+//!     assert!(rt; line == &TEXT[..8] && others == &TEXT[9..]);
 //!     assert!(rt; cut(b'/', line).is_some());
 //!     assert!(rt; cut(b'/', others).is_none());
-//!     assert!(rt; are_digits(b"48000"));
+//!     assert!(rt; are_digits(&TEXT[5..6]) && !are_digits(line));
 //!     let mut told = String::new(rt.alloc());
 //!     append_word(&mut told, "track ", "Music")?;
 //!     append_number(&mut told, " at ", 48000)?;
