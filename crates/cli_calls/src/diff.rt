@@ -1,4 +1,4 @@
-//! Two logs beside each other.
+//! The differences between two logs.
 
 ghost use Rattle.std.specs.Prelude.{◌≡◌, IfOk, IfErr, OnOk, length};
 ghost use Rattle.cli_calls.specs.Comparing.{diff_by, diff_in, begins_as_frame, IsLogOf, IsNoLogOf, GaveLogOf, GaveNoLog, GaveTwoLogs, TwoLogsCause};
@@ -18,7 +18,7 @@ use mt_opcodec::Log;
 use std::alloc::{AllocError, Allocator, Global};
 use std::io::{Read, Write};
 
-/// What is told of two logs beside each other.
+/// Which differences between two logs are printed.
 #[derive(Clone, Copy, Debug, PartialEq, Eq)]
 pub enum DiffForm {
     /// The operations that one of them alone has: the text of `diff_text`.
@@ -159,7 +159,7 @@ impl<A: Allocator + Clone> Command<A, TwoLogs<A>> for Diff {
     }
 }
 
-/// Writes the logs of two inputs beside each other, in the way that is asked for and in a form of lines.
+/// Writes the differences between the logs of two inputs that are asked for, in a form of lines.
 ///
 /// An input whose first byte is 0 is read as what `lack` wrote, frames of operations up to Bye: its log is
 /// that of these operations alone. Every other one is read as the text of a log. `frames` is where the

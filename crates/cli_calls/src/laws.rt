@@ -63,25 +63,28 @@ pub fn equal_cli_faults(fault: &CliFault, other: &CliFault) -> bool
     fault == other
 }
 
-/// What `view_logs` promises: where it answers Ok, it has written the text of the session of the union of the
-/// inputs' logs, and nothing else; `Merge` comes only of logs that clash, `Write` only of an output that has
-/// failed, and else nothing was written.
+/// What `view_logs` promises: if it returns Ok, it has written the text of the session of the union
+/// of the inputs' logs, and nothing else. `Merge` means that the logs conflict, `Write` that the
+/// output has failed; after any other fault nothing was written.
 pub fn view_logs<R: Read, W: Write>()
     ensures { (before after : Lent (List (Latched R)) (Latched W)) (result : Result (Unit {0}) Fault)
         → Ran R.remaining (GaveUnion R.remaining) (UnionFails R.remaining) (Prints log_view) W.contents before after result
         → WritesUnion R.remaining W.contents log_view before after result }
 {}
 
-/// What `merge_logs` promises: the same of the text of the log of the union.
+/// What `merge_logs` promises: if it returns Ok, it has written the text of the log of the union of
+/// the inputs' logs, and nothing else. `Merge` means that the logs conflict, `Write` that the output
+/// has failed; after any other fault nothing was written.
 pub fn merge_logs<R: Read, W: Write>()
     ensures { (before after : Lent (List (Latched R)) (Latched W)) (result : Result (Unit {0}) Fault)
         → Ran R.remaining (GaveUnion R.remaining) (UnionFails R.remaining) (Prints text_of) W.contents before after result
         → WritesUnion R.remaining W.contents text_of before after result }
 {}
 
-/// What `bounce_logs` promises: where it answers Ok, it has written the file of the session of the union of the
-/// logs over the recordings, and nothing else; `Mix` comes only of a programme that cannot be mixed or whose
-/// file is too long, `Write` only of an output that has failed, and else nothing was written.
+/// What `bounce_logs` promises: if it returns Ok, it has written the file of the session of the union
+/// of the logs over the recordings, and nothing else. `Mix` means that the programme cannot be mixed
+/// or that its file is too long, `Write` that the output has failed; after any other fault nothing
+/// was written.
 pub fn bounce_logs<R: Read, W: Write>()
     ensures { (layout : Layout) (head : HeadText) (before after : Lent (RenderInputs R) (Latched W)) (result : Result (Unit {0}) Fault)
         → RanOn (GaveLogsAndWaves R.remaining) (RenderCause R.remaining) (AreInputsRead R.remaining) (RendersLogs layout head)
@@ -89,9 +92,9 @@ pub fn bounce_logs<R: Read, W: Write>()
         → WritesFile R.remaining W.contents layout head before after result }
 {}
 
-/// What `write_info` promises: where it answers Ok, the bytes are a wave file, and it has written its text,
-/// and nothing else; `Source` comes only of bytes that are none, `Write` only of an output that has failed,
-/// and else nothing was written.
+/// What `write_info` promises: if it returns Ok, the bytes are a wave file, and it has written the
+/// file's text, and nothing else. `Source` means that the bytes are not a wave file, `Write` that the
+/// output has failed; after any other fault nothing was written.
 pub fn write_info<W: Write>()
     ensures { (bytes : List ℕ) (before after : Latched W) (result : Result (Unit {0}) Fault)
         → Wrote W.contents (Informs bytes) before after result

@@ -82,7 +82,7 @@ fn append_share<A: Allocator>(
     append_number_line(text, " shared ", share.shared as u64)
 }
 
-/// How many names and things stand beside each other.
+/// The length of the shorter of two lists.
 pub(crate) fn count_pairs<T>(names: &[&str], things: &[T]) -> usize
     ensures named { result ≤ length names.now }
     ensures there { result ≤ length things.now }
