@@ -1,12 +1,12 @@
 """Lines of tests/wrong_bodies.tried for crates in which names have changed, and some functions: the
 work of `tests/wrong_bodies.py --renamed MAP OLD`.
 
-MAP is a table of new names (tests/bodies/table.py). OLD is a commit. A crate gets its new line only where its line held
-in OLD, by that commit's own script. All that its sum covers has to be the same tokens as then, once
-the new names are mapped back. Where something differs, each wrong body is looked at for itself: if
-all that it rests on is the same tokens, it was refused in OLD. The others, and those that OLD has
-not, are tried, and have to be refused; else what differs first is told, and the line stays as it
-is.
+MAP is a table of new names (tests/bodies/table.py). OLD is a commit. A crate gets its new line only
+if its line held in OLD, by that commit's own script. All that its sum covers has to be the same
+tokens as then, once the new names are mapped back. If something differs, each wrong body is looked
+at for itself: if all that it rests on is the same tokens, it was refused in OLD. The others, and
+those that OLD does not have, are tried, and have to be refused; otherwise the first difference is
+printed, and the line stays as it is.
 
 A map has to lead back without a doubt: no two names may become one, no new name may be a word of
 OLD, and where a crate's files have a new name they may not have the old one too. A new name of
@@ -17,7 +17,8 @@ import sys
 import tempfile
 
 from bodies.edits import edits_of, texts_of
-from bodies.sums import TOP, RULES, covered, crate_lines, note_tried, path_of, sum_of, text_of, tried
+from bodies.sums import TOP, RULES, covered, crate_lines, note_tried, path_of, sum_of
+from bodies.sums import text_of, tried
 from bodies.table import BadMap, Names
 from bodies.tokens import names_by_place, tokens_of, words_of_path
 
@@ -80,15 +81,24 @@ def old_body(name, body, names):
 
 
 def both_names(texts, names):
-    """A name that stands in a crate's texts beside the one that it got, if any."""
+    """An old name that is in a crate's texts next to its new one, if any: both would lead back to
+    it."""
     words = {}
     for path, text in texts.items():
-        crate = names.old_crate(path)
-        words.setdefault(crate, {}).update(dict.fromkeys(names_by_place(path, text)[2], path))
-    for crate, found in words.items():
-        for new, old in names.old(crate).everywhere.items():
-            if new in found and old in found:
-                return "%s has %s, and %s has %s still" % (found[new], new, found[old], old)
+        found = words.setdefault(names.old_crate(path), ({}, {}, {}))
+        for one, some in zip(found, names_by_place(path, text)):
+            one.update(dict.fromkeys(some, path))
+    for crate, (of_contracts, others, every) in words.items():
+        scope = names.old(crate)
+        for place, found in (
+            (scope.everywhere, every),
+            (scope.contract, of_contracts),
+            (scope.clause, of_contracts),
+            (scope.code, others),
+        ):
+            for new, old in place.items():
+                if new in found and old in found and old not in place:
+                    return "%s has %s, and %s has %s still" % (found[new], new, found[old], old)
     return None
 
 
@@ -127,13 +137,16 @@ def difference(name, names, old_top, new_top=TOP, body=None):
         others, old_others = new_bodies(name, names, old_top, new_top), ()
     else:
         others = [one for one in bodies_of(name, new_top) if one != body]
-        old_others = [one for one in bodies_of(was_name, old_top) if one != old_body(name, body, names)]
+        was = old_body(name, body, names)
+        old_others = [one for one in bodies_of(was_name, old_top) if one != was]
     texts = covered(name, new_top, others)
     old_texts = covered(was_name, old_top, old_others)
     both = both_names(texts, names)
     if both:
         return both
     paths = {old_path(path, names): path for path in texts}
+    if len(paths) != len(texts):
+        return "two files lead back to one"
     for path in sorted(paths.keys() ^ old_texts.keys()):
         return "%s: %s" % (path, "it is new" if path in paths else "it is gone")
     for path, was in sorted(old_texts.items()):

@@ -1,11 +1,10 @@
-"""A table of new names: what `tests/rename.py` writes into the tree, and `wrong_bodies.py --renamed`
-maps back.
+"""A table of new names, which `wrong_bodies.py --renamed` maps back.
 
-Its lines are `old new`, each name one whole word: of the code, of definitions and proofs, of a
-file, a folder or a crate. With `contract` behind it a line is of what contracts, definitions and
-proofs name without a path, with `clause` of such names in sources alone, where a type's own name may
-stand in the way of a record's, with `code` of all else; `@a,b` at its end says in which crates, by
-their old names, and in no others."""
+A line is `old new`. Each name is one whole word: of the code, of definitions and proofs, of a file,
+a folder or a crate. A third word limits where the line holds. `contract`: names without a path in
+contracts, definitions and proofs. `clause`: such names in sources only, where a type's own name may
+hide a record's. `code`: everything else. `@a,b` at the end limits it to these crates, by their old
+names."""
 import functools
 import os
 
@@ -42,10 +41,11 @@ class Scope:
 
     def name(self, token, before, in_contract, kind=".antt"):
         """The other name for a token behind another one, in a file of this kind."""
-        own = self.code
+        places = [self.code]
         if in_contract and before != ".":
-            own = {**self.contract, **self.clause} if kind == ".rt" else self.contract
-        return own.get(token) or self.everywhere.get(token, token)
+            places = [self.clause, self.contract] if kind == ".rt" else [self.contract]
+        found = (place[token] for place in (*places, self.everywhere) if token in place)
+        return next(found, token)
 
 
 class Names:
@@ -60,11 +60,13 @@ class Names:
 
     @staticmethod
     def check(rows):
-        for names in ([row.old for row in rows], [row.new for row in rows]):
-            twice = [row for at, row in enumerate(rows) if names[at] in names[:at]]
-            if twice:
-                told = (twice[0].number, twice[0].old, twice[0].new)
-                raise BadMap("line %d: %s or %s stands in another line too" % told)
+        old, new = set(), set()
+        for row in rows:
+            if row.old in old or row.new in new:
+                told = (row.number, row.old, row.new)
+                raise BadMap("line %d: %s or %s is in another line too" % told)
+            old.add(row.old)
+            new.add(row.new)
 
     @functools.lru_cache(maxsize=None)
     def old(self, crate):
@@ -85,11 +87,15 @@ class Names:
                 places[row.place][name] = other
         return made
 
+    @functools.cached_property
+    def old_crates(self):
+        """The old names by the new ones that a crate may have."""
+        places = (None, "code")
+        return {row.new: row.old for row in self.rows if not row.crates and row.place in places}
+
     def old_crate(self, path):
         """The old name of the crate in which a file lies in the new tree, if it lies in one."""
         parts = path.split(os.sep)
         if parts[0] != "crates" or len(parts) < 2:
             return None
-        places = (None, "code")
-        back = {row.new: row.old for row in self.rows if not row.crates and row.place in places}
-        return back.get(parts[1], parts[1])
+        return self.old_crates.get(parts[1], parts[1])

@@ -121,8 +121,8 @@ def imports_of(tokens):
 
 
 def tokens_of(path, text, names):
-    """The tokens of a text, with old names in the place of new ones, and imports that stand one after
-    another in one order."""
+    """The tokens of a text, with old names in the place of new ones, and consecutive imports in one
+    order."""
     kind, scope = kind_of(path), names.old(names.old_crate(path))
     if kind == ".edit":
         return renamed(kind, plain_tokens(kind, text), scope)

@@ -46,10 +46,10 @@ HAND = (
 )
 # a type, and the record that it is seen as
 LEG = (
-    "ghost use Rattle.low.specs.Sums.{Limb};\n\npub struct Leg {\n    pub long: u32,\n}\n\nimpl Model for Leg {\n"
-    "    ghost use Rattle.low.specs.Sums.{Limb};\n\n    ghost Value = { Limb };\n}\n\n"
-    "impl Leg {\n    pub fn grown(self) -> Leg\n        ensures { (l : Limb) → l.long ≡ result.long }\n"
-    "    {\n        Leg { long: self.long }\n    }\n}\n"
+    "ghost use Rattle.low.specs.Sums.{Limb};\n\npub struct Leg {\n    pub long: u32,\n}\n\n"
+    "impl Model for Leg {\n    ghost use Rattle.low.specs.Sums.{Limb};\n\n    ghost Value = { Limb };\n}\n\n"
+    "impl Leg {\n    pub fn grown(self) -> Leg\n"
+    "        ensures { (l : Limb) → l.long ≡ result.long }\n    {\n        Leg { long: self.long }\n    }\n}\n"
 )
 SUMS = (
     "-- Sums.\nuse Rattle.std.specs.Prelude.{ℕ, ◌+◌}\n\n"
@@ -137,7 +137,12 @@ CHANGES = {
     "a clause of a method that nothing calls, of a field's name": (
         "", "crates/base/src/arm.rt", "ensures result ≡ 1", "ensures result ≡ 3"),
     "a record in the place of a type's fields": (
-        "base", "crates/base/proofs/summed/Answers.antt", "seen : Fields → Leg", "seen : Leg → Leg"),
+        "base", "crates/base/proofs/summed/Answers.antt", "seen : Fields → Leg",
+        "seen : Leg → Leg"),
+    "the old name of a record": (
+        "base", "crates/base/proofs/summed/Answers.antt", "seen : Fields → Leg",
+        "seen : Fields → Limb"),
+    "the old name of a method": ("high", "crates/high/src/lib.rt", "leg.taller()", "leg.grown()"),
     "another record in a clause": (
         "high", "crates/base/src/leg.rt", "(l : LegValue)", "(l : Fields)"),
     "a record that a clause of a method names": (
