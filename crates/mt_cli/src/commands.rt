@@ -31,6 +31,7 @@ pub(crate) mod log;
 pub(crate) mod man;
 pub(crate) mod meet;
 pub(crate) mod merge;
+pub(crate) mod new;
 pub(crate) mod pull;
 pub(crate) mod render;
 pub(crate) mod revert;

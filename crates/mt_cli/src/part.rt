@@ -32,6 +32,14 @@ impl WriteOptions {
         }
     }
 
+    /// The options that the flags give for a command that only makes new files.
+    pub(crate) fn for_new(words: &ArgMatches<'_>) -> WriteOptions {
+        WriteOptions {
+            is_new: true,
+            is_synced: !words.get_flag("no-sync"),
+        }
+    }
+
     /// The options that the flags give for a command that writes an existing file.
     pub(crate) fn in_place(words: &ArgMatches<'_>) -> WriteOptions {
         WriteOptions {

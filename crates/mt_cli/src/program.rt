@@ -6,7 +6,7 @@ ghost use Rattle.mt_cli.specs.Mistakes.{IsMistake};
 
 use crate::commands::{
     check, completions, diff, edit, explain, find, have, id, info, lack, lay, log, man, meet,
-    merge, pull, render, revert, serve, sources, take, timeline, view,
+    merge, new, pull, render, revert, serve, sources, take, timeline, view,
 };
 use crate::refusal_lines::{asks_why, put_cause, put_refusal, put_text};
 use crate::runtime::Runtime;
@@ -173,6 +173,7 @@ fn make<F: Runtime, W: Write, E: Write>(
     ensures untouched_output { IfErr result (λ stop. IsMistake stop → output.new ≡ output.old) }
 {
     match name {
+        "new" => exit_of(new::run(rt, words)),
         "merge" => exit_of(merge::run(rt, words)),
         "pull" => exit_of(pull::run(rt, words, output)),
         "edit" => exit_of(edit::run(rt, words, output)),
@@ -210,27 +211,28 @@ fn radio<'a>(alloc: Global) -> Result<Command<'a>, AllocError> {
     with_all(alloc, command, of_others())
 }
 
-// The commands that show logs, and make other logs from them.
+// The commands that create and show logs, and make other logs from them.
 fn of_logs() -> &'static [Words] {
     &OF_LOGS
 }
 
 static OF_LOGS: [Words; 7] = [
+    new::WORDS,
     view::WORDS,
     log::WORDS,
     timeline::WORDS,
     pull::WORDS,
     merge::WORDS,
     edit::WORDS,
-    revert::WORDS,
 ];
 
-// The commands that examine logs, and render them.
+// The commands that take changes back, examine logs, and render them.
 fn of_sessions() -> &'static [Words] {
     &OF_SESSIONS
 }
 
-static OF_SESSIONS: [Words; 5] = [
+static OF_SESSIONS: [Words; 6] = [
+    revert::WORDS,
     sources::WORDS,
     find::WORDS,
     diff::WORDS,

@@ -320,7 +320,7 @@ const OF_FILES_AND_PARTS: [Refusal; 16] = [
         number: 45,
         name: "Read",
         meaning: "an input cannot be opened or read",
-        advice: "Check that each file exists, is not a folder, and may be read; `--why` names the file. `radio merge --new LOG` creates an empty log. `serve` and `meet`: a conversation that broke off or timed out is 45, 37 or 49; meet again.",
+        advice: "Check that each file exists, is not a folder, and may be read; `--why` names the file. `radio new LOG` creates an empty log. `serve` and `meet`: a conversation that broke off or timed out is 45, 37 or 49; meet again.",
     },
     Refusal {
         number: 46,

@@ -178,7 +178,7 @@ impl<'w> Call<'_, 'w> {
     fn output(&self) -> &'w str {
         match self.words.get_str("OUT") {
             Some(name) => name,
-            None if self.name == "pull" => self.word("LOG"),
+            None if self.name == "pull" || self.name == "new" => self.word("LOG"),
             None => STANDARD_OUTPUT,
         }
     }
