@@ -14,6 +14,10 @@ pub mod Finding
 pub mod Reverting
 pub mod Comparing
 pub mod Laying
+pub mod Cues
+pub mod Labels
+pub mod Csv
+pub mod Edl
 pub mod Bouncing
 pub mod Checking
 pub mod Headline

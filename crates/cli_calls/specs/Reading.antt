@@ -2,6 +2,7 @@
 use Rattle.std.specs.Io.KnownBytes.{IsAtEnd}
 use Rattle.std.specs.List.{AllByRecursion}
 use Rattle.std.specs.Prelude.{false, ◌≡◌, ◌≢◌, ℕ, true, List, [], ◌∷◌, Option, IfSome, ◌+◌, ◌⊎◌}
+use Rattle.std.specs.Prelude.{Vec}
 use Rattle.sha2.specs.Sha256.{sha256}
 use Rattle.mt_opcodec.specs.declared.fault.LogFault.TheVariants as log
 use Rattle.base_io.specs.Latch.{Latch, ConsumesPrefix}
@@ -105,6 +106,10 @@ module _ {R : Type 0} (remaining : R → Option (List ℕ)) where
   abbrev pub GaveBytes : List (Latch R) → List ℕ → Type 0
   GaveBytes (input ∷ []) bytes = Gave input bytes
   GaveBytes _ bytes = ⊥
+
+  -- the same bytes in memory
+  abbrev pub GaveFile : {Z : Type 0} → List (Latch R) → Vec ℕ Z → Type 0
+  GaveFile inputs file = GaveBytes inputs file.items
 
   -- why the one reader gave no bytes
   abbrev pub BytesCause : List (Latch R) → List (Latch R) → CliFault → Type 0

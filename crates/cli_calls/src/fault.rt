@@ -13,6 +13,9 @@ use mt_script::ScriptFault;
 use mt_stamp::{Dot, StampFault};
 use mt_sync::{MessageFault, SyncFault};
 use std::alloc::{AllocError, AllocFailed};
+use text_cues::CuesFault;
+use text_edl::EdlFault;
+use text_labels::LabelsFault;
 use thiserror::Error;
 
 /// Why OUT is not made, or does not get its name. OUT itself is unchanged.
@@ -99,6 +102,15 @@ pub enum CliFault {
     /// The recording at this index cannot be laid on a track.
     #[error("recording {0} is not laid: {1}")]
     Lay(usize, LayFault),
+    /// No script lines can be made of the cue points of the recording at this index.
+    #[error("recording {0} has no script lines: {1}")]
+    Cues(usize, CuesFault),
+    /// The text is not a label track that can be read.
+    #[error("the labels are refused: {0}")]
+    Labels(LabelsFault),
+    /// The edit decision list cannot be made.
+    #[error("no edit decision list: {0}")]
+    EditList(EdlFault),
     /// The output failed.
     #[error("the output cannot be written")]
     Write,
@@ -151,6 +163,9 @@ impl CliFault {
             CliFault::Source(_, fault) => fault.number(),
             CliFault::Mix(fault) => fault.number(),
             CliFault::Lay(_, fault) => fault.number(),
+            CliFault::Cues(_, fault) => fault.number(),
+            CliFault::Labels(fault) => fault.number(),
+            CliFault::EditList(fault) => fault.number(),
             CliFault::Write | CliFault::Print => 37,
             CliFault::Part(fault) => fault.number(),
             CliFault::Name(fault) => fault.number(),

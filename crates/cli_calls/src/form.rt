@@ -1,9 +1,10 @@
 //! The forms in which lines are printed.
 
 ghost use Rattle.std.specs.Prelude.{◌≡◌, ◌≤◌, max, None, IsTrue, IfOk};
+ghost use Rattle.std.specs.Option.{ForSome};
 ghost use Rattle.text_json.specs.Json.{json_text};
 ghost use Rattle.text_json.specs.Saying.{timed_text};
-ghost use Rattle.cli_calls.specs.Form.{in_form, with_times};
+ghost use Rattle.cli_calls.specs.Form.{in_form, some_rate, with_times};
 ghost use Rattle.cli_calls.specs.Writing.{Exactly, Wrote};
 
 use crate::fault::CliFault;
@@ -45,6 +46,17 @@ pub(crate) fn at_least_one(rate: u32) -> u32
     ensures some { 1 ≤ result }
 {
     if rate == 0 { 1 } else { rate }
+}
+
+/// A rate, if there is one (0 counts as 1).
+pub(crate) fn some_rate(rate: Option<u32>) -> Option<u32>
+    ensures value { result ≡ some_rate rate }
+    ensures some { ForSome result (λ r. 1 ≤ r) }
+{
+    match rate {
+        Some(rate) => Some(at_least_one(rate)),
+        None => None,
+    }
 }
 
 // A text with times at a rate (0 counts as 1).

@@ -18,13 +18,17 @@ use std::time::Duration;
 
 pub(crate) mod check;
 pub(crate) mod completions;
+pub(crate) mod csv;
+pub(crate) mod cues;
 pub(crate) mod diff;
 pub(crate) mod edit;
+pub(crate) mod edl;
 pub(crate) mod explain;
 pub(crate) mod find;
 pub(crate) mod have;
 pub(crate) mod id;
 pub(crate) mod info;
+pub(crate) mod labels;
 pub(crate) mod lack;
 pub(crate) mod lay;
 pub(crate) mod log;

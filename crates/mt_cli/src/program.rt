@@ -5,8 +5,8 @@ ghost use Rattle.mt_cli.specs.Telling.{asks_why, TellsCauses, TellsFault, TellsR
 ghost use Rattle.mt_cli.specs.Mistakes.{IsMistake};
 
 use crate::commands::{
-    check, completions, diff, edit, explain, find, have, id, info, lack, lay, log, man, meet,
-    merge, new, pull, render, revert, serve, sources, take, timeline, view,
+    check, completions, csv, cues, diff, edit, edl, explain, find, have, id, info, labels, lack,
+    lay, log, man, meet, merge, new, pull, render, revert, serve, sources, take, timeline, view,
 };
 use crate::refusal_lines::{asks_why, put_cause, put_refusal, put_text};
 use crate::runtime::Runtime;
@@ -149,6 +149,10 @@ fn print<F: Runtime, R: Read, W: Write, E: Write>(
         "diff" => exit_of(diff::run(rt, words, output)),
         "check" => exit_of(check::run(rt, words, output)),
         "info" => exit_of(info::run(rt, words, output)),
+        "labels" => exit_of(labels::run(rt, words, output)),
+        "csv" => exit_of(csv::run(rt, words, output)),
+        "edl" => exit_of(edl::run(rt, words, output)),
+        "cues" => exit_of(cues::run(rt, words, output)),
         "lay" => exit_of(lay::run(rt, words, output)),
         "revert" => exit_of(revert::run(rt, words, output)),
         "explain" => explain::run(rt.alloc(), words, output),
@@ -226,26 +230,29 @@ static OF_LOGS: [Words; 7] = [
     edit::WORDS,
 ];
 
-// The commands that take changes back, examine logs, and render them.
+// The commands that take changes back, examine logs, render them, and print their markers.
 fn of_sessions() -> &'static [Words] {
     &OF_SESSIONS
 }
 
-static OF_SESSIONS: [Words; 6] = [
+static OF_SESSIONS: [Words; 7] = [
     revert::WORDS,
     sources::WORDS,
     find::WORDS,
     diff::WORDS,
     check::WORDS,
     render::WORDS,
+    labels::WORDS,
 ];
 
-// The commands by which editors exchange operations.
+// The commands that print tables and lists, and by which editors exchange operations.
 fn of_swaps() -> &'static [Words] {
     &OF_SWAPS
 }
 
-static OF_SWAPS: [Words; 5] = [
+static OF_SWAPS: [Words; 7] = [
+    csv::WORDS,
+    edl::WORDS,
     have::WORDS,
     lack::WORDS,
     take::WORDS,
@@ -258,8 +265,9 @@ fn of_others() -> &'static [Words] {
     &OF_OTHERS
 }
 
-static OF_OTHERS: [Words; 6] = [
+static OF_OTHERS: [Words; 7] = [
     info::WORDS,
+    cues::WORDS,
     lay::WORDS,
     id::WORDS,
     explain::WORDS,

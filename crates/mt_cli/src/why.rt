@@ -18,6 +18,8 @@ use mt_sync::{SyncFault, TalkFault};
 use std::alloc::Global;
 use std::fs;
 use std::rt::Files;
+use text_cues::CuesFault;
+use text_labels::LabelsFault;
 
 /// The cause of a fault, as far as it is known from the words with which the command of this name
 /// was called, and from their files. None if an allocation fails.
@@ -101,7 +103,7 @@ impl<'w> Call<'_, 'w> {
             "take" => &["LOG", "OPS"],
             "render" | "check" => &["LOG", "SOURCE"],
             "sources" => &["LOG", "WAVE"],
-            "info" | "lay" => &["WAVE"],
+            "info" | "lay" | "cues" => &["WAVE"],
             "find" => &["LOG", "WHAT"],
             "timeline" => &["LOG", "source"],
             _ => &["LOG"],
@@ -165,6 +167,9 @@ impl<'w> Call<'_, 'w> {
 
     // The first option of a format with a value that is not supported.
     fn format_option(&self) -> &'static str {
+        if self.name == "edl" {
+            return "fps";
+        }
         if !(1..=384_000).contains(&self.words.get_one::<u32>("rate").unwrap_or(0)) {
             return "rate";
         }
@@ -201,6 +206,9 @@ fn cause_of<F: Files + AllocGlobal>(
         CliFault::Source(index, _) => { told(alloc, "recording ", call.recording(index)) }
         CliFault::Mix(fault) => mix_cause(rt, call, fault),
         CliFault::Lay(index, fault) => lay_cause(rt, call.input(call.inputs(), index), fault),
+        CliFault::Cues(index, fault) => cues_cause(rt, call.input(call.inputs(), index), fault),
+        CliFault::Labels(fault) => labels_cause(alloc, call.word("LOG"), fault),
+        CliFault::EditList(_) => told(alloc, "log ", call.word("LOG")),
         CliFault::Write => output_cause(alloc, call.output(), "cannot be written"),
         CliFault::Print => output_cause(alloc, STANDARD_OUTPUT, "cannot be written"),
         CliFault::Part(fault) => part_cause(alloc, call.output(), fault),
@@ -321,13 +329,36 @@ fn rate_cause<F: Files + AllocGlobal>(
     told(alloc, "source ", &text)
 }
 
-// Why a recording is not laid: its file, and also its digest and rate if it has another rate. It is
-// read again.
+// Why a recording is not laid: its file, and also its digest and rate if it has another rate.
 fn lay_cause<F: Files + AllocGlobal>(rt: &F, name: &str, fault: LayFault) -> Option<String> {
-    let alloc = rt.alloc();
-    if fault != LayFault::RateDiffers {
-        return told(alloc, "recording ", name);
+    match fault {
+        LayFault::RateDiffers => other_rate_cause(rt, name),
+        _ => told(rt.alloc(), "recording ", name),
     }
+}
+
+// Why a recording has no script lines: its file, and also its digest and rate if it has another
+// rate, or the index of the cue point at fault, counted from 0.
+fn cues_cause<F: Files + AllocGlobal>(rt: &F, name: &str, fault: CuesFault) -> Option<String> {
+    let alloc = rt.alloc();
+    match fault {
+        CuesFault::RateDiffers => other_rate_cause(rt, name),
+        CuesFault::TooLong(cue) => format!(in alloc; "recording {name} cue {cue}").ok(),
+        CuesFault::TooManyLines | CuesFault::Memory => told(alloc, "recording ", name),
+    }
+}
+
+// Why a label track is not read: its file, and its line at fault, counted from 1.
+fn labels_cause(alloc: Global, name: &str, fault: LabelsFault) -> Option<String> {
+    match fault {
+        LabelsFault::BadLine(line) => format!(in alloc; "labels {name} line {line}").ok(),
+        LabelsFault::TooManyLines | LabelsFault::Memory => told(alloc, "labels ", name),
+    }
+}
+
+// The cause: a recording of another rate, with its digest, its rate and its name. It is read again.
+fn other_rate_cause<F: Files + AllocGlobal>(rt: &F, name: &str) -> Option<String> {
+    let alloc = rt.alloc();
     let bytes = bytes_named(rt, name)?;
     let text = Digest::of(&bytes).text(alloc).ok()?;
     let rate = Wave::read(&bytes).ok()?.rate();
