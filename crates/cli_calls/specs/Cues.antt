@@ -2,7 +2,7 @@
 -- (profile).
 use Rattle.std.specs.Prelude.{◌≡◌, ℕ, ◌+◌, List, [], ◌∷◌, Option, Some, None, Result, Ok, Err, Vec}
 use Rattle.base_io.specs.Latch.{Latch}
-use Rattle.mt_bwfread.specs.Wave.{fault_of}
+use Rattle.mt_bwfread.specs.Wave.{IsWave, fault_of}
 use Rattle.mt_bwfread.specs.declared.fault.WaveFault.{WaveFault}
 use Rattle.wave_header.specs.WaveHeader.{Gives, IsWaveHeader}
 use Rattle.wave_header.specs.declared.header.WaveHeader.{WaveHeader}
@@ -11,7 +11,8 @@ use Rattle.cli_calls.specs.declared.cues.CueOptions.{CueOptions}
 use Rattle.cli_calls.specs.declared.fault.CliFault.{CliFault}
 use Rattle.cli_calls.specs.declared.fault.CliFault.TheVariants.{Memory, Source, Cues}
 use Rattle.cli_calls.specs.Laying.{behind}
-use Rattle.cli_calls.specs.Reading.{GaveEach, FirstCause, IsRead, IsReadCause, IsRest}
+use Rattle.cli_calls.specs.Reading.{GaveEach, FirstCause, IsRead}
+use Rattle.cli_calls.specs.Sources.{IsSourceCause}
 
 -- ---- the lines of one file
 
@@ -81,18 +82,15 @@ IsCuesCause made _ = ⊥
 -- ---- the readers of files
 
 module _ {R : Type 0} (remaining : R → Option (List ℕ)) where
-  -- the reader gave the file of this outline
+  -- the reader gave the wave file of this outline
   abbrev pub GaveHeader : {A : Type 0} → Latch R → WaveHeader A → Type 0
-  GaveHeader latch o = Gives (remaining latch.inner) o
+  GaveHeader latch o = Gives (remaining latch.inner) o × IsWave (kept o)
 
-  -- why the reader at an index was not read to its end
-  abbrev pub IsHeaderCause : ℕ → Latch R → Latch R → CliFault → Type 0
-  IsHeaderCause index old new fault = IsReadCause index new fault × IsRest remaining old new
-
-  -- each reader gave the file of the outline at its place
+  -- each reader gave the wave file of the outline at its place
   abbrev pub GaveHeaders : {A Z : Type 0} → List (Latch R) → Vec (WaveHeader A) Z → Type 0
   GaveHeaders latches headers = GaveEach GaveHeader latches headers.items
 
-  -- why the first reader that was not read to its end was not
+  -- why the first reader without a wave file gave none
   abbrev pub HasHeaderCause : {A : Type 0} → List (Latch R) → List (Latch R) → CliFault → Type 0
-  HasHeaderCause {A} = FirstCause (IsRead remaining) (GaveHeader {A}) IsHeaderCause 0
+  HasHeaderCause {A} = FirstCause (IsRead remaining) (GaveHeader {A})
+      (IsSourceCause remaining 0) 0

@@ -27,17 +27,18 @@ pub struct CueOptions {
     pub line: u64,
 }
 
-/// An input that is a file, of which only the outline is kept.
+/// An input that is a wave file, of which only the outline is kept.
 struct HeaderInput;
 
 impl<A: Allocator + Clone> OneInput<A> for HeaderInput {
-    ghost use Rattle.cli_calls.specs.Cues.{GaveHeader, IsHeaderCause};
+    ghost use Rattle.cli_calls.specs.Cues.{GaveHeader};
+    ghost use Rattle.cli_calls.specs.Sources.{IsSourceCause};
 
     type Value = WaveHeader<A>;
 
     ghost gives = { λ s R remaining. GaveHeader remaining };
 
-    ghost cause = { λ s R remaining. IsHeaderCause remaining };
+    ghost cause = { λ s R remaining. IsSourceCause remaining 0 };
 
     fn read_one<R: Read>(
         &self,
@@ -45,13 +46,17 @@ impl<A: Allocator + Clone> OneInput<A> for HeaderInput {
         index: usize,
         input: &mut Latch<R>,
     ) -> Result<WaveHeader<A>, CliFault> {
-        read_header(alloc, index, input)
+        let header = read_header(alloc, index, input)?;
+        match Wave::read(header.bytes()) {
+            Ok(_) => Ok(header),
+            Err(fault) => Err(CliFault::Source(index, fault)),
+        }
     }
 
     fn starves<R: Read>(&self) {}
 }
 
-// Any number of files, of which only the outlines are kept.
+// Any number of wave files, of which only the outlines are kept.
 struct Headers;
 
 impl<A: Allocator + Clone> Input<A> for Headers {
@@ -148,10 +153,10 @@ impl<A: Allocator + Clone> Command<A, Vec<WaveHeader<A>, A>> for Cues<'_> {
 /// left to right, and nothing else: the text of `text_cues::cue_lines`. Every recording begins at
 /// the same position. The memory is that of the outlines and of the lines.
 ///
-/// Errors, in this order: `Read` (45) with the index of an input whose latch has failed; with the
-/// index of the first recording at fault, `Source` (26 to 32) if it is not a wave file, and `Cues`
-/// if it has another rate (34), a marker would be after frame 4,294,967,295, or a line would have a
-/// number over that (35); `Write` (37) if the output's latch has failed (the output then holds a
+/// Errors, in this order: `Read` (45) with the index of an input whose latch has failed, or
+/// `Source` (26 to 32) with the index of one that is not a wave file, from left to right; `Cues`
+/// with the index of the first recording that has another rate (34), or of which a marker would be
+/// after frame 4,294,967,295 or a line would have a number over that (35); `Write` (37) if the output's latch has failed (the output then holds a
 /// prefix of the text); `Memory` (0) if an allocation failed.
 pub fn cue_files<A: Allocator + Clone, R: Read, W: Write>(
     alloc: A,
