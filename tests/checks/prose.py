@@ -24,13 +24,14 @@ TOTAL = 20000
 BUDGETS = {
     "README.md": 950,
     "CONTRIBUTING.md": 800,
-    "docs/README.md": 150,
+    "docs/README.md": 160,
     "docs/use/tutorial.md": 1000,
-    "docs/use/commands.md": 1900,
+    "docs/use/commands.md": 2200,
     "docs/use/scripts.md": 700,
     "docs/use/output.md": 1500,
     "docs/use/exchange.md": 500,
     "docs/use/git.md": 200,
+    "docs/use/interchange.md": 750,
     "docs/use/errors.md": 900,
     "docs/formats/log.md": 1100,
     "docs/formats/wave.md": 900,
@@ -48,7 +49,6 @@ LATER = {
     "docs/use/archive.md": 500,
     "docs/use/desk.md": 900,
     "docs/use/station.md": 400,
-    "docs/formats/interchange.md": 700,
 }
 UNCOUNTED = ("laws", "aims", "data", "view", "render")
 TURNS = {
