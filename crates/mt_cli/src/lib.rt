@@ -54,11 +54,11 @@ mod stop;
 mod why;
 
 pub use cli_calls::{
-    CliFault, DiffKind, Drawing, FindQuery, InfoForm, InfoUnit, LayFault, Laying, PartFault,
-    SessionDrawing, TextOptions, bounce_logs, check_log, diff_logs, draw_logs, edit_log,
-    find_items, have_log, info_file, lack_log, laws, lay_files, list_logs, list_sources,
-    merge_logs, pull_logs, read_growing, revert_log, swap_log, take_log, view_logs, view_logs_in,
-    write_header, write_info,
+    CliFault, CueOptions, DiffKind, Drawing, EdlOptions, FindQuery, InfoForm, InfoUnit, LayFault,
+    Laying, PartFault, SessionDrawing, TextOptions, bounce_logs, check_log, csv_log, cue_files,
+    diff_logs, draw_logs, edit_log, edl_log, find_items, have_log, info_file, label_log, lack_log,
+    laws, lay_files, list_logs, list_sources, merge_logs, pull_logs, read_growing, read_labels,
+    revert_log, swap_log, take_log, view_logs, view_logs_in, write_header, write_info,
 };
 pub use program::command;
 pub use refusals::{Refusal, find_refusal};
