@@ -1,17 +1,20 @@
 #!/usr/bin/env python3
-"""Checks the pages: lines, cells, links, budgets, and the English: tests/checks/prose.py [--list]
+"""Checks the pages: cells, links, budgets, English: tests/checks/prose.py [--list]
 
-The pages are README.md, CONTRIBUTING.md and docs/**/*.md. It fails on
+The pages are README.md, CONTRIBUTING.md and docs/**/*.md. lines.py checks the lengths of their
+lines. This check fails on
 
-- a line of over 100 characters (tables, `text` blocks and the marks of generated parts apart), a cell of a table of over 120,
-  and over 30 lines with no heading (generated parts and blocks apart);
-- a page over its budget or without one, and all pages over TOTAL. The words of a page are those of `wc -w` without the marks of
-  generated parts, and without the index of laws and the measurements, which grow with the code and with the runs (UNCOUNTED);
-- a line inside a paragraph that begins as an item of a list;
-- a relative link to a file or a heading that is not there, and a page that docs/README.md does not link;
-- more than ten sentences of 35 words or more, and more than ten of each of the turns below, in all pages together. Generated
-  parts, blocks and code are not looked at here: their words are mended where they come from;
-- a block `sh norun NAME` whose NAME, a check below tests, is not there, and any other words after `sh` (story.py types the rest).
+- a cell of a table with over 120 characters, and over 30 lines without a heading (generated parts
+  and blocks apart);
+- a page without a budget or over it, and all pages over TOTAL. The words of a page are those that
+  `wc -w` counts, without the marks of generated parts. The index of laws and the measurements do
+  not count, as they grow with the code and with the runs (UNCOUNTED);
+- a line inside a paragraph that begins like an item of a list;
+- a relative link to a missing file or heading, and a page without a link in docs/README.md;
+- more than ten sentences of 35 words or more, and more than ten uses of a turn in TURNS, in all
+  pages together. Generated parts, blocks and code are skipped: they are corrected at their source;
+- a block `sh norun NAME` whose NAME is no file below tests, and any other words after `sh`
+  (story.py runs the other blocks).
 """
 import glob
 import os
@@ -19,7 +22,7 @@ import re
 import sys
 
 TOP = os.path.dirname(os.path.dirname(os.path.dirname(os.path.abspath(__file__))))
-LINE, CELL, HEADLESS, LONG, MOST = 100, 120, 30, 35, 10
+CELL, HEADLESS, LONG, MOST = 120, 30, 35, 10
 TOTAL = 20000
 BUDGETS = {
     "README.md": 950,
@@ -69,8 +72,12 @@ TURNS = {
     "hangs on": r"\b(hang|hangs|hung) on\b",
 }
 GENERATED = re.compile(r"<!-- generated: ([^>]*?) -->(.*?)<!-- end -->", re.S)
-MARK = re.compile(r"<!-- .*? -->")
 FENCE = re.compile(r"^```(.*?)\n(.*?)^```$", re.M | re.S)
+
+
+def blank(place):
+    """As many empty lines as a match has."""
+    return "\n" * place.group().count("\n")
 
 
 def text_of(page):
@@ -89,17 +96,13 @@ def counted(text):
     return len(text.split())
 
 
-def line_faults(text):
-    fence = ""
-    for number, line in enumerate(text.splitlines(), 1):
-        if line.startswith("```"):
-            fence = "" if fence else line[3:].split()[0] if line[3:] else "text"
-        elif line.startswith("|") and not fence:
-            cells = re.split(r"(?<!\\)\|", line.strip("|"))
-            if max(map(len, cells)) > CELL:
-                yield "line %d has a cell of %d characters" % (number, max(map(len, cells)))
-        elif len(MARK.sub("", line)) > LINE and fence != "text":
-            yield "line %d has %d characters" % (number, len(MARK.sub("", line)))
+def cell_faults(text):
+    """The cells of tables that are too long."""
+    for number, line in enumerate(FENCE.sub(blank, text).splitlines(), 1):
+        if line.startswith("|"):
+            longest = max(map(len, re.split(r"(?<!\\)\|", line.strip("|"))))
+            if longest > CELL:
+                yield "line %d has a cell of %d characters" % (number, longest)
 
 
 def list_faults(text):
@@ -167,7 +170,7 @@ def faults_of(page, text):
         yield "it has no budget"
     elif counted(text) > budget:
         yield "it has %d words, and may have %d" % (counted(text), budget)
-    yield from line_faults(text)
+    yield from cell_faults(text)
     yield from list_faults(text)
     yield from heading_faults(text)
     yield from link_faults(page, text)

@@ -1,5 +1,5 @@
 #!/usr/bin/env python3
-"""Checks that each worked row and each named wrong body has its places: tests/checks/rows.py
+"""Checks the places of worked rows and named wrong bodies: tests/checks/rows.py
 
 tests/rows.txt lists them: a name at the beginning of a line, with what it is about, and below it, indented, its places, each FILE:WHAT. A place is a test, or
 what a test goes through, that a comment `row: NAME, ...` (or `wrong body: NAME, ...`) before it marks; of a wrong body also an edit of that name in a crate's
