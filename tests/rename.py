@@ -42,7 +42,9 @@ def new_code(kind, text, scope):
     pieces, at, before = [], 0, ""
     found = list(pattern_of(kind).finditer(text))
     shown = [one for one in found if not is_remark(one.group())]
-    where = dict(zip((one.start() for one in shown), in_contracts(kind, [one.group() for one in shown])))
+    where = dict(
+        zip((one.start() for one in shown), in_contracts(kind, [one.group() for one in shown]))
+    )
     for one in found:
         pieces.append(text[at : one.start()])
         token, at = one.group(), one.end()
@@ -99,11 +101,13 @@ def new_source(path, text, scope):
 
 
 def new_edits(text, scope):
-    """The wrong bodies of a crate: their files, and the code in them; a wrong body has its name as a
-    word of the code."""
+    """The wrong bodies of a crate: their files, and the code in them; a wrong body has its name as
+    a word of the code."""
     def line_of(line):
         pieces = re.split(r'("(?:\\.|[^"\\])*")', line)
-        other = (re.sub(r"\w+", lambda word: scope.name(word.group(), "", False), one) for one in pieces)
+        other = (
+            re.sub(r"\w+", lambda word: scope.name(word.group(), "", False), one) for one in pieces
+        )
         return "".join(one if one.startswith('"') else new for one, new in zip(pieces, other))
 
     return "\n".join(line_of(line) for line in text.split("\n"))
@@ -128,7 +132,9 @@ def new_path(path, names):
 
 def main():
     names = Names(text_of(sys.argv[1]))
-    told = subprocess.run(["git", "ls-files", "-z"], cwd=TOP, capture_output=True, text=True, check=True)
+    told = subprocess.run(
+        ["git", "ls-files", "-z"], cwd=TOP, capture_output=True, text=True, check=True
+    )
     own = os.path.relpath(os.path.abspath(sys.argv[1]), TOP)
     for path in filter(None, told.stdout.split("\0")):
         place = os.path.join(TOP, path)

@@ -3,10 +3,11 @@
 alone: CRATE/NAME, or those that rest on what changed since a commit: --renamed MAP OLD
 
 They are in crates/CRATE/wrong-bodies.txt, a paragraph for each: `edit: NAME` and the lines of a
-must-fail edit, `file:` with pairs of `old:` and `new:`. `rt must-fail` checks a crate once for each edit; here a round applies one edit to each of
-many functions, checks the crate once, and wants each edited function to be refused for itself: by a
-goal of its own that is left open. A function that is refused only since it calls one that is not
-proved does not count: its edit goes into another round, and at last into a check of its own.
+must-fail edit, `file:` with pairs of `old:` and `new:`. `rt must-fail` checks a crate once for each
+edit; here a round applies one edit to each of many functions, checks the crate once, and wants each
+edited function to be refused for itself: by a goal of its own that is left open. A function that is
+refused only since it calls one that is not proved does not count: its edit goes into another round,
+and at last into a check of its own.
 
 A function with a hand-written answer can be refused since that answer fits no longer, though its
 contract may admit the body. So the round is checked again with such answers left out: a goal has to
@@ -71,8 +72,8 @@ def try_part(name, edits):
 
 
 def left_to_try(name, bodies):
-    """The edits of a crate that are to be tried: those of these names, or all whose own lines do not
-    hold."""
+    """The edits of a crate that are to be tried: those of these names, or all whose own lines do
+    not hold."""
     folder = os.path.join(TOP, "crates", name)
     if bodies:
         return edits_of(folder, bodies)
@@ -131,8 +132,8 @@ def try_crates(crates, jobs):
     """Tries the wrong bodies of these crates, each with the names of some or none for all; how many
     were not refused as they have to be."""
     for name in crates:
-        # proves it and those that it stands on, unless `rt ci` just did, so that the rounds begin with
-        # what this keeps
+        # proves it and those that it stands on, unless `rt ci` just did, so that the rounds begin
+        # with what this keeps
         stamp_libraries(name)
         place = os.path.join(TOP, "crates", name)
         if subprocess.run(["rt", "check"], cwd=place, capture_output=True).returncode != 0:
@@ -182,8 +183,8 @@ def by_number():
 
 
 def named(words):
-    """The crates of some words CRATE or CRATE/NAME, each with the names of its wrong bodies, or none
-    for all."""
+    """The crates of some words CRATE or CRATE/NAME, each with the names of its wrong bodies, or
+    none for all."""
     crates = {}
     for word in words:
         crate, _, body = word.partition("/")

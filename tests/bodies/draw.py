@@ -127,8 +127,8 @@ def is_newer(folder):
 
 
 def stamp_libraries(name, top=TOP):
-    """Has a check in a copy, or in the tree itself, take the libraries below a crate as `rt ci` left
-    them."""
+    """Has a check in a copy, or in the tree itself, take the libraries below a crate as `rt ci`
+    left them."""
     below = [one for one in crates_below(name, crate_lines()) if one != name]
     if below and all(is_newer(os.path.join(TOP, "crates", one)) for one in below):
         of_rt = os.path.dirname(os.path.realpath(shutil.which("rt")))

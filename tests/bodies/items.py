@@ -11,7 +11,10 @@ from bodies.tokens import REMARK, SORTED, in_contracts, is_of_contract, kind_of,
 
 # The first line of an item of a source that others reach by a name.
 NAMED = re.compile(
-    r"(?:pub(?:\(\w+\))? )?(?:unsafe )?(?:struct|enum|union|trait|type|const|static)\s+(?:mut )?(\w+)"
+    (
+        r"(?:pub(?:\(\w+\))? )?(?:unsafe )?(?:struct|enum|union|trait|type|const|static)\s+(?:mut "
+        r")?(\w+)"
+    )
 )
 IMPL = re.compile(r"(?:unsafe )?impl\b")
 # A file's imports, and those that others may use too.

@@ -1,11 +1,13 @@
 #!/usr/bin/env python3
 """Lets two processes exchange operations: python3 tests/checks/meetings.py PROGRAM
 
-`radio serve` and `radio meet` over loopback on logs of several sizes with what they share: both end with the union, byte for byte as
-`radio merge` gives it, and what `have`, `lack` and `take` do by files gives the same. Then peers that cut, that send one byte at a
-time, that send what is no message: a clear status, and the files that were there whole; a meeting of which one side is killed at
-a random moment, which a second meeting completes; an OUT that neither side can make after the meeting, which is told at both; ends that wait no longer
-than is said; and one who serves many in turn, edits made meanwhile going along, whom callers that say garbage or nothing do not end.
+`radio serve` and `radio meet` over loopback on logs of several sizes with what they share: both end
+with the union, byte for byte as `radio merge` gives it, and what `have`, `lack` and `take` do by
+files gives the same. Then peers that cut, that send one byte at a time, that send what is no
+message: a clear status, and the files that were there whole; a meeting of which one side is killed
+at a random moment, which a second meeting completes; an OUT that neither side can make after the
+meeting, which is told at both; ends that wait no longer than is said; and one who serves many in
+turn, edits made meanwhile going along, whom callers that say garbage or nothing do not end.
 """
 import os
 import random
@@ -26,7 +28,9 @@ ONLY_A, ONLY_B = 20, 21
 
 
 def markers(replica, count, size=8):
-    return [add_marker((number, replica, number), number, "m" * size) for number in range(1, count + 1)]
+    return [
+        add_marker((number, replica, number), number, "m" * size) for number in range(1, count + 1)
+    ]
 
 
 def free_port():
@@ -57,7 +61,13 @@ class Desk:
         return {name: self.bytes_of(name) for name in os.listdir(self.folder)}
 
     def start(self, *words):
-        return subprocess.Popen([self.program, *words], cwd=self.folder, stdout=subprocess.PIPE, stderr=subprocess.PIPE, text=True)
+        return subprocess.Popen(
+            [self.program, *words],
+            cwd=self.folder,
+            stdout=subprocess.PIPE,
+            stderr=subprocess.PIPE,
+            text=True,
+        )
 
     def run(self, *words):
         """The refusal's number, or none."""
@@ -84,7 +94,10 @@ class Desk:
 def listens(port):
     """Whether a socket waits at this port, asked without calling there."""
     with open("/proc/net/tcp") as file:
-        return any(line.split()[1].endswith(":%04X" % port) and line.split()[3] == "0A" for line in file.readlines()[1:])
+        return any(
+            line.split()[1].endswith(":%04X" % port) and line.split()[3] == "0A"
+            for line in file.readlines()[1:]
+        )
 
 
 def told(child):
@@ -132,7 +145,8 @@ def caller(port, pieces, read=True):
 
 
 def check_peer(program, pieces, wanted, left):
-    """One who serves `left` and is called by a peer that sends these pieces ends with one of these statuses."""
+    """One who serves `left` and is called by a peer that sends these pieces ends with one of these
+    statuses."""
     desk = Desk(program, left, [])
     before = desk.bytes_of("left")
     child, port = desk.serving("left")
@@ -177,7 +191,8 @@ def check_killed(program, seed):
 
 
 def check_refused_outputs(program):
-    """OUT is made after the conversation: where its part is there, or its folder is not, both ends are refused (37), and each file is as it was."""
+    """OUT is made after the conversation: where its part is there, or its folder is not, both ends
+    are refused (37), and each file is as it was."""
     outputs = [("left", "right"), ("left.new", "right.new"), ("no/left", "no/right")]
     for out, other in outputs:
         desk = Desk(program, markers(A, 3), markers(B, 2))
@@ -206,11 +221,16 @@ def check_waits(program):
     with socket.socket() as silent:
         silent.bind(("127.0.0.1", 0))
         silent.listen()
-        assert desk.run("meet", "--wait", "1", "127.0.0.1:%d" % silent.getsockname()[1], "right", "right.new") == 45
+        assert desk.run(
+            "meet", "--wait", "1", "127.0.0.1:%d" % silent.getsockname()[1], "right", "right.new"
+        ) == 45
     assert time.monotonic() - began < 60
     # what answers in time is not ended
     child, port = desk.serving("left.new", "--wait", "20")
-    assert desk.run("meet", "--wait", "20", "127.0.0.1:%d" % port, "right", "right.new") is None and told(child) is None
+    assert (
+        desk.run("meet", "--wait", "20", "127.0.0.1:%d" % port, "right", "right.new") is None
+        and told(child) is None
+    )
     assert desk.bytes_of("left.new") == log(markers(A, 3) + markers(B, 2))
     for wait in ("0", "x", ""):
         child = desk.start("serve", "--wait", wait, "127.0.0.1:0", "left", "left.new")
@@ -224,8 +244,9 @@ EDITOR = "00000000-0000-0000-0000-%012x"
 
 
 def check_many(program):
-    """One who serves three in turn, into its own log: an edit that is made between meetings goes along, and so does what came before; a caller that says
-    garbage, and one that says nothing and hangs up, are told and not counted."""
+    """One who serves three in turn, into its own log: an edit that is made between meetings goes
+    along, and so does what came before; a caller that says garbage, and one that says nothing and
+    hangs up, are told and not counted."""
     desk = Desk(program, markers(A, 3), markers(B, 2))
     child, port = desk.serving("left", "--why", "--meetings", "3")
     address = "127.0.0.1:%d" % port
@@ -271,17 +292,33 @@ def main():
     program = os.path.abspath(sys.argv[1])
     sizes = [(0, 0, 0), (0, 1, 0), (1, 1, 1), (0, 0, 1), (500, 1000, 700), (3000, 2000, 5000)]
     for shared, left, right in sizes:
-        check_meeting(program, markers(C, shared) + markers(ONLY_A, left), markers(C, shared) + markers(ONLY_B, right))
+        check_meeting(
+            program,
+            markers(C, shared) + markers(ONLY_A, left),
+            markers(C, shared) + markers(ONLY_B, right),
+        )
     # more than one message goes one way
     check_meeting(program, markers(ONLY_A, 29000, 255), markers(ONLY_B, 10, 255))
     ours, theirs = markers(A, 3), markers(B, 2)
     whole = summary(theirs) + ops(theirs) + BYE
     reply = summary(ours) + ops(ours) + BYE
     peers = [
-        ([whole], {None}), ([bytes([byte]) for byte in whole], {None}), ([], {49}), ([whole[:-1]], {49}), ([summary(theirs)], {49}),
-        ([whole + b"\0"], {None, 39}), ([summary(theirs) + BYE + BYE], {None, 39}), ([BYE], {39}), ([ops(theirs)], {39}), ([summary(theirs) * 2], {39}),
-        ([b"\0" * 64], {38}), ([b"GET / HTTP/1.0\r\n\r\n"], {40}), ([have([]) * 100000], {37, 39}), ([frame(b"\1" + b"\xff" * 9)], {38}),
-        ([bytes([0, 128, 0, 1])], {40}), ([summary(theirs) + ops([add_marker((1, A, 1), 5, "other")]) + BYE], {17}),
+        ([whole], {None}),
+        ([bytes([byte]) for byte in whole], {None}),
+        ([], {49}),
+        ([whole[:-1]], {49}),
+        ([summary(theirs)], {49}),
+        ([whole + b"\0"], {None, 39}),
+        ([summary(theirs) + BYE + BYE], {None, 39}),
+        ([BYE], {39}),
+        ([ops(theirs)], {39}),
+        ([summary(theirs) * 2], {39}),
+        ([b"\0" * 64], {38}),
+        ([b"GET / HTTP/1.0\r\n\r\n"], {40}),
+        ([have([]) * 100000], {37, 39}),
+        ([frame(b"\1" + b"\xff" * 9)], {38}),
+        ([bytes([0, 128, 0, 1])], {40}),
+        ([summary(theirs) + ops([add_marker((1, A, 1), 5, "other")]) + BYE], {17}),
     ]
     for pieces, wanted in peers:
         heard, desk = check_peer(program, pieces, wanted, ours)
@@ -291,8 +328,17 @@ def main():
     rounds = 50
     for seed in range(rounds):
         check_killed(program, seed)
-    outputs, waits, callers = check_refused_outputs(program), check_waits(program), check_many(program)
-    print("%d meetings of two processes agree with merging and with files, %d peers are told as they are, %d killed meetings were completed, %d ends refused an output, %d waits ended or did not, %d callers were served in turn" % (len(sizes) + 1, len(peers), rounds, outputs, waits, callers))
+    outputs, waits, callers = (
+        check_refused_outputs(program),
+        check_waits(program),
+        check_many(program),
+    )
+    print(
+        "%d meetings of two processes agree with merging and with files, %d peers are told as they "
+        "are, %d killed meetings were completed, %d ends refused an output, %d waits ended or did "
+        "not, %d callers were served in turn"
+        % (len(sizes) + 1, len(peers), rounds, outputs, waits, callers)
+    )
 
 
 if __name__ == "__main__":

@@ -92,7 +92,9 @@ def pages():
 
 def counted(text):
     """What of a page counts for its budget."""
-    text = GENERATED.sub(lambda part: "" if part.group(1).split()[0] in UNCOUNTED else part.group(2), text)
+    text = GENERATED.sub(
+        lambda part: "" if part.group(1).split()[0] in UNCOUNTED else part.group(2), text
+    )
     return len(text.split())
 
 
@@ -144,16 +146,30 @@ def link_faults(page, text):
 def block_faults(text):
     for words, _ in FENCE.findall(text):
         kind, *rest = words.split() or [""]
-        if kind == "sh" and rest and (len(rest) != 2 or rest[0] != "norun" or not os.path.exists(os.path.join(TOP, rest[1]))):
+        if (
+            kind == "sh"
+            and rest
+            and (
+                len(rest) != 2
+                or rest[0] != "norun"
+                or not os.path.exists(os.path.join(TOP, rest[1]))
+            )
+        ):
             yield "a block `%s` names no check that runs its like" % words
 
 
 def plain(text):
-    """The words that somebody wrote: paragraphs, items, cells and headings apart, code as one word."""
+    """The words that somebody wrote: paragraphs, items, cells and headings apart, code as one
+    word."""
     text = FENCE.sub("\n\n", GENERATED.sub("\n\n", text))
     text = re.sub(r"`[^`]*`", "CODE", text)
     text = re.sub(r"!?\[([^]]*)\]\([^)]*\)", r"\1", text)
-    text = re.sub(r"^(#.*|\|.*|!.*)$", lambda line: "\n" + line.group(1).replace("|", "\n\n") + "\n", text, flags=re.M)
+    text = re.sub(
+        r"^(#.*|\|.*|!.*)$",
+        lambda line: "\n" + line.group(1).replace("|", "\n\n") + "\n",
+        text,
+        flags=re.M,
+    )
     return re.sub(r"^\s*(?:[-*]|\d+\.) ", "\n", text, flags=re.M)
 
 
@@ -182,7 +198,10 @@ def faults_of_all(texts):
     for name in BUDGETS:
         if name not in texts:
             yield "%s is not there" % name
-    whole, most = sum(map(counted, texts.values())), TOTAL + sum(words for page, words in LATER.items() if page in texts)
+    whole, most = (
+        sum(map(counted, texts.values())),
+        TOTAL + sum(words for page, words in LATER.items() if page in texts),
+    )
     if whole > most:
         yield "all pages have %d words, and may have %d" % (whole, most)
     linked = re.findall(r"\]\(([^)#]+)", texts["docs/README.md"])
@@ -195,24 +214,45 @@ def turns_of(texts):
     """The long sentences and each of the turns, with where they are."""
     found = {"sentences of %d words or more" % LONG: []}
     for page, text in texts.items():
-        found["sentences of %d words or more" % LONG] += ["%s: %s" % (page, one) for one in sentences(text) if len(one.split()) >= LONG]
+        found["sentences of %d words or more" % LONG] += [
+            "%s: %s" % (page, one) for one in sentences(text) if len(one.split()) >= LONG
+        ]
         words = plain(text)
         for name, turn in TURNS.items():
             places = re.finditer(turn, words, re.I)
-            found.setdefault(name, []).extend("%s: %s" % (page, " ".join(words[max(0, one.start() - 30) : one.end() + 30].split())) for one in places)
+            found.setdefault(name, []).extend(
+                "%s: %s"
+                % (page, " ".join(words[max(0, one.start() - 30) : one.end() + 30].split()))
+                for one in places
+            )
     return found
 
 
 def main():
     texts = {page: text_of(page) for page in pages()}
-    faults = ["%s: %s" % (page, fault) for page, text in texts.items() for fault in faults_of(page, text)]
+    faults = [
+        "%s: %s" % (page, fault) for page, text in texts.items() for fault in faults_of(page, text)
+    ]
     faults += faults_of_all(texts)
     turns = turns_of(texts)
-    faults += ["%d times: %s\n  %s" % (len(found), name, "\n  ".join(found)) for name, found in turns.items() if len(found) > MOST]
+    faults += [
+        "%d times: %s\n  %s" % (len(found), name, "\n  ".join(found))
+        for name, found in turns.items()
+        if len(found) > MOST
+    ]
     if "--list" in sys.argv[1:]:
-        print("\n".join("%6d of %5d %s" % (counted(text), BUDGETS.get(page, LATER.get(page, 0)), page) for page, text in texts.items()))
+        print(
+            "\n".join(
+                "%6d of %5d %s" % (counted(text), BUDGETS.get(page, LATER.get(page, 0)), page)
+                for page, text in texts.items()
+            )
+        )
         print("\n".join("%6d %s" % (len(found), name) for name, found in turns.items()))
-    print("".join(fault + "\n" for fault in faults) + "prose: %d pages, %d words, %d faults" % (len(texts), sum(map(counted, texts.values())), len(faults)))
+    print(
+        "".join(fault + "\n" for fault in faults) + "prose: %d pages, %d words, %d faults" % (
+            len(texts), sum(map(counted, texts.values())), len(faults)
+        )
+    )
     return 1 if faults else 0
 
 

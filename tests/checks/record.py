@@ -46,10 +46,14 @@ HAND = (
 )
 # a type, and the record that it is seen as
 LEG = (
-    "ghost use Rattle.low.specs.Sums.{Limb};\n\npub struct Leg {\n    pub long: u32,\n}\n\n"
-    "impl Model for Leg {\n    ghost use Rattle.low.specs.Sums.{Limb};\n\n    ghost Value = { Limb };\n}\n\n"
-    "impl Leg {\n    pub fn grown(self) -> Leg\n"
-    "        ensures { (l : Limb) → l.long ≡ result.long }\n    {\n        Leg { long: self.long }\n    }\n}\n"
+    (
+        "ghost use Rattle.low.specs.Sums.{Limb};\n\npub struct Leg {\n    pub long: u32,\n}\n\n"
+        "impl Model for Leg {\n    ghost use Rattle.low.specs.Sums.{Limb};\n\n"
+        "    ghost Value = { Limb };\n}\n\n"
+        "impl Leg {\n    pub fn grown(self) -> Leg\n"
+        "        ensures { (l : Limb) → l.long ≡ result.long }\n    {\n"
+        "        Leg { long: self.long }\n    }\n}\n"
+    )
 )
 SUMS = (
     "-- Sums.\nuse Rattle.std.specs.Prelude.{ℕ, ◌+◌}\n\n"
@@ -264,7 +268,8 @@ SAYS = {
 
 
 def lay_repository(top, more=None):
-    """A repository with the tree OLD, and more, in whose record `low` holds, and `high` does not."""
+    """A repository with the tree OLD, and more, in whose record `low` holds, and `high` does
+    not."""
     lay({**OLD, **(more or {})}, top)
     lay({"bin/rt": RT}, os.path.dirname(top))
     os.chmod(os.path.join(os.path.dirname(top), "bin", "rt"), 0o755)
@@ -387,7 +392,9 @@ def check_bodies(folder):
         lay_repository(top, {"crates/low/wrong-bodies.txt": bodies})
         was = sum_of("low", top)
         lay({"none": ""}, folder)
-        lib = LOW.replace("    one + other // 'a'", "    let sum = one + other;\n    one + other // 'a'")
+        lib = LOW.replace(
+            "    one + other // 'a'", "    let sum = one + other;\n    one + other // 'a'"
+        )
         lay({"crates/low/src/lib.rt": lib}, top)
         env = {**os.environ, "HOW": how}
         told = subprocess.run(words, cwd=top, capture_output=True, text=True, env=env)

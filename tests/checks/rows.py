@@ -1,9 +1,11 @@
 #!/usr/bin/env python3
 """Checks the places of worked rows and named wrong bodies: tests/checks/rows.py
 
-tests/rows.txt lists them: a name at the beginning of a line, with what it is about, and below it, indented, its places, each FILE:WHAT. A place is a test, or
-what a test goes through, that a comment `row: NAME, ...` (or `wrong body: NAME, ...`) before it marks; of a wrong body also an edit of that name in a crate's
-wrong-bodies.txt. The check fails where a name has no place, a place is not there or not marked, or a mark is not listed."""
+tests/rows.txt lists them: a name at the beginning of a line, with what it is about, and below it,
+indented, its places, each FILE:WHAT. A place is a test, or what a test goes through, that a comment
+`row: NAME, ...` (or `wrong body: NAME, ...`) before it marks; of a wrong body also an edit of that
+name in a crate's wrong-bodies.txt. The check fails where a name has no place, a place is not there
+or not marked, or a mark is not listed."""
 import glob
 import os
 import re
@@ -26,7 +28,8 @@ def lines_of(path):
 
 
 def item_after(path, lines, place):
-    """What a mark in a line of Rattle or of a specification is about, and whether a test runs it."""
+    """What a mark in a line of Rattle or of a specification is about, and whether a test runs
+    it."""
     for number in range(place + 1, len(lines)):
         if path.endswith(".antt"):
             found = EXAMPLE.match(lines[number])
@@ -61,7 +64,8 @@ def marks():
 
 
 def listed():
-    """Each place of the list, in its order: the kind, the name, the file and what stands there; of a name without a place, the name alone."""
+    """Each place of the list, in its order: the kind, the name, the file and what stands there; of
+    a name without a place, the name alone."""
     kind, name = "row", None
     for line in lines_of(ROWS):
         if line.startswith("#") or not line.strip():

@@ -1,4 +1,5 @@
-"""The texts of `radio diff`, and what an input of it is, by docs/use/output.md alone and not by the program under test."""
+"""The texts of `radio diff`, and what an input of it is, by docs/use/output.md alone and not by the
+program under test."""
 import io
 
 from formats.log_text import act_words, stamp
@@ -8,8 +9,12 @@ from formats.read_messages import take_ops
 from formats.sessions import session_text
 
 # the fields of items in their order; a track and a clip each have a place
-FIELDS = ("title", "gain", "mute", "track place", "clip place", "trim", "source", "position", "fades", "length")
-# by kind: which field of the operation names the item, none where it is the operation itself, and what is written of that
+FIELDS = (
+    "title", "gain", "mute", "track place", "clip place", "trim", "source", "position", "fades",
+    "length",
+)
+# by kind: which field of the operation names the item, none where it is the operation itself, and
+# what is written of that
 WRITES = {
     "add_track": (None, "track place", "title", "gain", "mute"),
     "move_track": ("track", "track place"),
@@ -29,7 +34,8 @@ WRITES = {
 
 
 def side(data):
-    """The operations of an input, each its stamp and its bytes: what `radio lack` wrote begins with 0, the length of a frame, and a log does not."""
+    """The operations of an input, each its stamp and its bytes: what `radio lack` wrote begins with
+    0, the length of a frame, and a log does not."""
     return [op.text() for op in (take_ops([], data) if data[:1] == b"\0" else read_log(data))]
 
 
@@ -43,17 +49,32 @@ class Sides:
     """The operations of two logs by their dots, and the dots under which each has another one."""
 
     def __init__(self, left, right):
-        self.lefts, self.rights = ({own[1:]: (own, text) for own, text in ops} for ops in (left, right))
-        self.clashes = {dot for dot in self.lefts if dot in self.rights and self.lefts[dot] != self.rights[dot]}
+        self.lefts, self.rights = (
+            {own[1:]: (own, text) for own, text in ops} for ops in (left, right)
+        )
+        self.clashes = {
+            dot for dot in self.lefts if dot in self.rights and self.lefts[dot] != self.rights[dot]
+        }
 
     def told(self):
         told = []
-        for side, (mark, ours, others) in enumerate((("-", self.lefts, self.rights), ("+", self.rights, self.lefts))):
-            told += [(own, side, "!" if dot in self.clashes else mark, text) for dot, (own, text) in ours.items() if dot not in others or dot in self.clashes]
+        for side, (mark, ours, others) in enumerate(
+            (("-", self.lefts, self.rights), ("+", self.rights, self.lefts))
+        ):
+            told += [
+                (own, side, "!" if dot in self.clashes else mark, text)
+                for dot, (own, text) in ours.items()
+                if dot not in others or dot in self.clashes
+            ]
         return "".join(told_line(mark, text) for _, _, mark, text in sorted(told))
 
     def counts(self):
-        counts = (len(self.lefts.keys() - self.rights.keys()), len(self.rights.keys() - self.lefts.keys()), len((self.lefts.keys() & self.rights.keys()) - self.clashes), len(self.clashes))
+        counts = (
+            len(self.lefts.keys() - self.rights.keys()),
+            len(self.rights.keys() - self.lefts.keys()),
+            len((self.lefts.keys() & self.rights.keys()) - self.clashes),
+            len(self.clashes),
+        )
         return "left %d right %d both %d clashes %d\n" % counts
 
     def fields(self):
@@ -65,13 +86,25 @@ class Sides:
                 op = read_op(ours[dot][1])[0]
                 names, *fields = WRITES[op.kind]
                 for field in fields:
-                    written.setdefault((op.fields[names] if names else op.own, FIELDS.index(field)), []).append(op.own)
+                    written.setdefault(
+                        (op.fields[names] if names else op.own, FIELDS.index(field)), []
+                    ).append(op.own)
             last.append({key: max(stamps) for key, stamps in written.items()})
-        return "".join("both %s %s %s %s\n" % (stamp_text(*key[0]), FIELDS[key[1]].split()[-1], stamp_text(*last[0][key]), stamp_text(*last[1][key])) for key in sorted(last[0].keys() & last[1].keys()))
+        return "".join(
+            "both %s %s %s %s\n"
+            % (
+                stamp_text(*key[0]),
+                FIELDS[key[1]].split()[-1],
+                stamp_text(*last[0][key]),
+                stamp_text(*last[1][key]),
+            )
+            for key in sorted(last[0].keys() & last[1].keys())
+        )
 
 
 def diff_text(left, right):
-    """Of the operations of two logs, each its stamp and its bytes: what one of them alone has, and how many there are."""
+    """Of the operations of two logs, each its stamp and its bytes: what one of them alone has, and
+    how many there are."""
     sides = Sides(left, right)
     return sides.told() + sides.counts()
 
@@ -84,10 +117,27 @@ def diff_text_with_fields(left, right):
 
 def view_diff_text(left, right):
     """The lines of the session that go and those that come."""
-    lefts, rights = (session_text([read_op(text)[0] for _, text in ops]).split("\n")[:-1] for ops in (left, right))
-    return "".join("%s %s\n" % (mark, line) for mark, lines, others in (("-", lefts, set(rights)), ("+", rights, set(lefts))) for line in lines if line not in others) + Sides(left, right).counts()
+    lefts, rights = (
+        session_text([read_op(text)[0] for _, text in ops]).split("\n")[:-1]
+        for ops in (left, right)
+    )
+    return (
+        "".join(
+            "%s %s\n" % (mark, line)
+            for mark, lines, others in (("-", lefts, set(rights)), ("+", rights, set(lefts)))
+            for line in lines
+            if line not in others
+        )
+        + Sides(left, right).counts()
+    )
 
 
 def diff_by(words, left, right):
     """What these words ask for."""
-    return (diff_text_with_fields if "--fields" in words else view_diff_text if "--view" in words else diff_text)(left, right)
+    return (
+        diff_text_with_fields
+        if "--fields" in words
+        else view_diff_text
+        if "--view" in words
+        else diff_text
+    )(left, right)

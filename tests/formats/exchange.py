@@ -1,4 +1,5 @@
-"""Messages of the exchange as bytes, written from the format alone (docs/formats/log.md) and not by the program under test."""
+"""Messages of the exchange as bytes, written from the format alone (docs/formats/log.md) and not by
+the program under test."""
 import struct
 
 LONGEST = 8388608
@@ -12,7 +13,11 @@ def have(replicas):
     """A Have: of each replica, rising, its run and its extras."""
     body = b"\1" + struct.pack(">I", len(replicas))
     for replica, run, extras in replicas:
-        body += replica.to_bytes(16, "big") + struct.pack(">QI", run, len(extras)) + b"".join(struct.pack(">Q", extra) for extra in extras)
+        body += (
+            replica.to_bytes(16, "big")
+            + struct.pack(">QI", run, len(extras))
+            + b"".join(struct.pack(">Q", extra) for extra in extras)
+        )
     return frame(body)
 
 

@@ -1,4 +1,5 @@
-"""The text of a log's operations, told from their bytes by docs/use/output.md alone and not by the program under test."""
+"""The text of a log's operations, told from their bytes by docs/use/output.md alone and not by the
+program under test."""
 import io
 
 from formats.logs import stamp_text
@@ -56,5 +57,9 @@ def log_line(text, held):
 
 
 def log_text(ops, held=()):
-    """A line for each operation, by rising stamp, of which those of the stamps `held` wait; and how many there are."""
-    return "".join(log_line(text, own in held) for own, text in sorted(ops)) + "operations %d\n" % len(ops)
+    """A line for each operation, by rising stamp, of which those of the stamps `held` wait; and how
+    many there are."""
+    return (
+        "".join(log_line(text, own in held) for own, text in sorted(ops))
+        + "operations %d\n" % len(ops)
+    )

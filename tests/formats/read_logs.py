@@ -1,4 +1,5 @@
-"""Operations and logs read from bytes, or the number of their refusal, by docs/formats and docs/use alone and not by the program under test."""
+"""Operations and logs read from bytes, or the number of their refusal, by docs/formats and docs/use
+alone and not by the program under test."""
 import hashlib
 
 from formats import logs
@@ -7,14 +8,25 @@ from formats.sessions import Op
 
 GREATEST = 1 << 62
 TRUNCATED, BAD_TAG, BAD_FIELD = 8, 9, 10
-BAD_MAGIC, BAD_VERSION, DAMAGED, BAD_RECORD, OUT_OF_ORDER, TRAILING, CONFLICT, VERSION_TOO_HIGH = 11, 12, 13, 14, 15, 16, 17, 52
+BAD_MAGIC, BAD_VERSION, DAMAGED, BAD_RECORD, OUT_OF_ORDER, TRAILING, CONFLICT, VERSION_TOO_HIGH = (
+    11, 12, 13, 14, 15, 16, 17, 52,
+)
 NEWEST, LONGEST_FADE = 3, 1048576
 
 # by kind byte: the kind, and its fields in their order, each with how it is read
 KINDS = {
     1: ("add_track", [("after", "place"), ("title", "title")]),
     2: ("move_track", [("track", "name"), ("after", "place")]),
-    3: ("add_clip", [("source", "digest"), ("track", "name"), ("at", "frame"), ("offset", "frame"), ("length", "length")]),
+    3: (
+        "add_clip",
+        [
+            ("source", "digest"),
+            ("track", "name"),
+            ("at", "frame"),
+            ("offset", "frame"),
+            ("length", "length"),
+        ],
+    ),
     4: ("move_clip", [("clip", "name"), ("track", "name"), ("at", "frame")]),
     5: ("trim_clip", [("clip", "name"), ("offset", "frame"), ("length", "length")]),
     6: ("set_gain", [("item", "name"), ("num", "short"), ("den", "divisor")]),
@@ -56,7 +68,9 @@ class Reader:
 
     def stamp(self):
         data = self.take(32)
-        clock, replica, seq = (int.from_bytes(data[start:end], "big") for start, end in ((0, 8), (8, 24), (24, 32)))
+        clock, replica, seq = (
+            int.from_bytes(data[start:end], "big") for start, end in ((0, 8), (8, 24), (24, 32))
+        )
         refuse_unless(1 <= clock <= GREATEST and 1 <= seq <= GREATEST, BAD_FIELD)
         return clock, replica, seq
 
@@ -132,7 +146,8 @@ def dot(op):
 
 
 def read_rising(data, at, count, bad_record, out_of_order, version=NEWEST):
-    """So many operations by rising dot, and where the last one ends. A record that is none and one that does not rise are refused by these numbers."""
+    """So many operations by rising dot, and where the last one ends. A record that is none and one
+    that does not rise are refused by these numbers."""
     ops = []
     for _ in range(count):
         try:
@@ -150,7 +165,9 @@ def read_log(data):
     refuse_unless(len(data) > 4 and 1 <= data[4] <= NEWEST, BAD_VERSION)
     refuse_unless(len(data) >= 45 and hashlib.sha256(data[:-32]).digest() == data[-32:], DAMAGED)
     body = data[:-32]
-    ops, at = read_rising(body, 13, int.from_bytes(body[5:13], "big"), BAD_RECORD, OUT_OF_ORDER, data[4])
+    ops, at = read_rising(
+        body, 13, int.from_bytes(body[5:13], "big"), BAD_RECORD, OUT_OF_ORDER, data[4]
+    )
     refuse_unless(at == len(body), TRAILING)
     refuse_unless(data[4] <= logs.version_of([op.text()[1] for op in ops]), VERSION_TOO_HIGH)
     return ops

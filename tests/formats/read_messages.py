@@ -1,5 +1,5 @@
-"""Messages read from bytes, what `radio have`, `lack` and `take` write, and what an end of a conversation comes to, by docs/formats/log.md, docs/use/exchange.md and
-docs/use/errors.md alone."""
+"""Messages read from bytes, what `radio have`, `lack` and `take` write, and what an end of a
+conversation comes to, by docs/formats/log.md, docs/use/exchange.md and docs/use/errors.md alone."""
 from formats.exchange import BYE, LONGEST, ops as ops_frames, summary
 from formats.read_logs import CONFLICT, GREATEST, dot, read_rising, same
 from formats.refused import Refused, refuse_unless
@@ -51,7 +51,8 @@ def read_message(data):
 
 
 def front(stream):
-    """The body of the frame at the front and what follows it, or nothing where there is no whole frame yet."""
+    """The body of the frame at the front and what follows it, or nothing where there is no whole
+    frame yet."""
     if len(stream) < 4:
         return None
     length = int.from_bytes(stream[:4], "big")
@@ -104,7 +105,8 @@ def take_ops(ops, stream):
 
 
 class End:
-    """An end of a conversation that has been told bytes: its set, what it has sent, whether it has ended, and what stopped it."""
+    """An end of a conversation that has been told bytes: its set, what it has sent, whether it has
+    ended, and what stopped it."""
 
     def __init__(self, ops, calls):
         self.ops, self.calls, self.replicas, self.ended, self.number = ops, calls, None, False, None
@@ -125,7 +127,8 @@ class End:
                 self.sent += lacking(self.ops, self.replicas) + BYE
 
     def hear(self, stream):
-        """All that the other end ever sends. Bytes behind its Bye are not looked at here: whether they are met hangs on how they are cut."""
+        """All that the other end ever sends. Bytes behind its Bye are not looked at here: whether
+        they are met hangs on how they are cut."""
         try:
             while not self.ended:
                 frame = front(stream)

@@ -1,5 +1,6 @@
-"""What `radio edit` makes of a log by a script, or the number of its refusal, by docs/formats and docs/use alone: the forms of the lines, and
-the operation that an editor makes of the set with those before it."""
+"""What `radio edit` makes of a log by a script, or the number of its refusal, by docs/formats and
+docs/use alone: the forms of the lines, and the operation that an editor makes of the set with those
+before it."""
 import re
 
 from formats.read_logs import GREATEST, LONGEST_FADE, is_title
@@ -13,7 +14,16 @@ UUID = re.compile(rb"[0-9a-f]{8}-[0-9a-f]{4}-[0-9a-f]{4}-[0-9a-f]{4}-[0-9a-f]{12
 FORMS = {
     b"add-track": ("add_track", [("after", "after"), ("title", "title")]),
     b"move-track": ("move_track", [("track", "item"), ("after", "after")]),
-    b"add-clip": ("add_clip", [("source", "digest"), ("track", "item"), ("at", "frame"), ("offset", "frame"), ("length", "frame")]),
+    b"add-clip": (
+        "add_clip",
+        [
+            ("source", "digest"),
+            ("track", "item"),
+            ("at", "frame"),
+            ("offset", "frame"),
+            ("length", "frame"),
+        ],
+    ),
     b"move-clip": ("move_clip", [("clip", "item"), ("track", "item"), ("at", "frame")]),
     b"trim-clip": ("trim_clip", [("clip", "item"), ("offset", "frame"), ("length", "frame")]),
     b"gain": ("set_gain", [("item", "item"), ("gain", "gain")]),
@@ -29,7 +39,8 @@ FORMS = {
 
 
 def read_replica(word):
-    """A replica in any spelling of a UUID: with hyphens or without, in braces or behind `urn:uuid:`, in either case."""
+    """A replica in any spelling of a UUID: with hyphens or without, in braces or behind
+    `urn:uuid:`, in either case."""
     plain = word.lower()
     for whole in (r"\{(.*)\}", r"urn:uuid:(.*)"):
         inside = re.fullmatch(whole, plain)
@@ -52,7 +63,8 @@ def read_stamp(word):
 
 
 class Line:
-    """The words of a line, one after another, where `made` has the items that lines before it made."""
+    """The words of a line, one after another, where `made` has the items that lines before it
+    made."""
 
     def __init__(self, line, made):
         self.rest, self.made = line, made
@@ -65,7 +77,9 @@ class Line:
         return word
 
     def title(self):
-        refuse_unless(self.rest is not None and len(self.rest) <= 255 and is_title(self.rest), BAD_LINE)
+        refuse_unless(
+            self.rest is not None and len(self.rest) <= 255 and is_title(self.rest), BAD_LINE
+        )
         title, self.rest = self.rest.decode(), None
         return title
 
@@ -124,7 +138,16 @@ def items_named(kind, fields):
     """The items that a change names, each with its role."""
     if kind == "move_clip":
         return [(fields["clip"], "Clip"), (fields["track"], "Track")]
-    named = [(next(fields[key] for key in ("item", "track", "clip", "marker") if key in fields), NAMED[kind])] if kind in NAMED else []
+    named = (
+        [
+            (
+                next(fields[key] for key in ("item", "track", "clip", "marker") if key in fields),
+                NAMED[kind],
+            )
+        ]
+        if kind in NAMED
+        else []
+    )
     return named + ([(fields["after"], "Track")] if fields.get("after") is not None else [])
 
 

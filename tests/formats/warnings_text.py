@@ -5,9 +5,12 @@ from formats.sessions import ready_of
 
 
 def is_covered(clip, clips):
-    """Whether clips that were placed later lie over this one at each of its frames: these are clips that are not muted, as this one."""
+    """Whether clips that were placed later lie over this one at each of its frames: these are clips
+    that are not muted, as this one."""
     at, end = clip.at, clip.at + clip.length
-    for other in sorted((other for other in clips if other.place > clip.place), key=lambda other: other.at):
+    for other in sorted(
+        (other for other in clips if other.place > clip.place), key=lambda other: other.at
+    ):
         if other.at <= at:
             at = max(at, other.at + other.length)
     return at >= end
@@ -26,12 +29,25 @@ def warnings_text(ops, session, mix):
         end, frames = clip.offset + clip.length, mix.found[clip.source].frames
         if end > frames:
             lines.append("past-end %s end %d frames %d" % (stamp_text(*clip.own), end, frames))
-    lines += ["covered " + stamp_text(*clip.own) for _, some in tracks for clip in some if is_covered(clip, some)]
+    lines += [
+        "covered " + stamp_text(*clip.own)
+        for _, some in tracks
+        for clip in some
+        if is_covered(clip, some)
+    ]
     for digest in sorted({clip.source for clip in clips}):
         channels = mix.found[digest].channels
         if channels > mix.channels:
             lines.append("one-channel %s channels %d" % (digest.hex(), channels))
-    lines += ["behind %s at %d" % (stamp_text(*marker.own), marker.at) for marker in session.markers if marker.at >= mix.length]
+    lines += [
+        "behind %s at %d" % (stamp_text(*marker.own), marker.at)
+        for marker in session.markers
+        if marker.at >= mix.length
+    ]
     ready = {op.own: op for op in ready_of(ops)}
-    lines += ["held %s needs %s" % (stamp_text(*op.own), stamp_text(*unmet(op, ready))) for op in sorted(ops, key=lambda op: op.own) if op.own not in ready]
+    lines += [
+        "held %s needs %s" % (stamp_text(*op.own), stamp_text(*unmet(op, ready)))
+        for op in sorted(ops, key=lambda op: op.own)
+        if op.own not in ready
+    ]
     return "".join(line + "\n" for line in lines) + "warnings %d\n" % len(lines)

@@ -131,8 +131,9 @@ fn is_empty_have(alloc: Global, body: &[u8]) -> Result<bool, MessageFault> {
     Ok(Message::read(alloc, body)? == empty)
 }
 
-// row: message_bodies The worked bodies: a Have of nothing and a Bye; a byte alone, a replica of
-// which nothing is said, no operation, a byte behind Bye.
+// The worked bodies: a Have of nothing, and a Bye. Wrong ones: a single byte, a replica with no
+// operation, no operation at all, and a byte after the Bye.
+// row: message_bodies
 #[test]
 fn reads_the_worked_bodies(rt: HostRuntime) {
     assert!(rt; is_empty_have(rt.alloc(), &[1, 0, 0, 0, 0]) == Ok(true));

@@ -193,8 +193,9 @@ fn some_of(stamps: &[Stamp], count: usize) -> &[Stamp] {
     stamps.get(..count).unwrap_or(stamps)
 }
 
-// row: refused_growths Of many tags that are given or copied, and of two sets of each presence that
-// are joined; none without marks, and none of two tags that are removed and copied.
+// Giving and copying many tags allocates, and so does joining two sets of each presence. Without
+// marks nothing allocates, nor does removing and copying two tags.
+// row: refused_growths
 #[test]
 fn refuses_each_allocation(rt: HostRuntime) -> Result<(), Fail> {
     let (ours, theirs) = (falling(A)?, falling(B)?);
