@@ -8,7 +8,8 @@ use std::test::Fail;
 
 /// A wave file of 24 bits on one channel, 48,000 frames a second, with the samples 1, 2 and 3.
 pub const RECORDING: &[u8] =
-    b"RIFF\xff\xff\0\0WAVEfmt \x10\0\0\0\x01\0\x01\0\x80\xbb\0\0\0\0\0\0\x03\0\x18\0data\x09\0\0\0\x01\0\0\x02\0\0\x03\0\0";
+    b"RIFF\xff\xff\0\0WAVEfmt \x10\0\0\0\x01\0\x01\0\x80\xbb\0\0\0\0\0\0\x03\0\x18\0\
+      data\x09\0\0\0\x01\0\0\x02\0\0\x03\0\0";
 
 /// The log of markers `News` of these stamps.
 pub fn log_of<M: Allocator + Clone>(memory: &M, stamps: &[Stamp]) -> Result<Log<M>, LogFault> {

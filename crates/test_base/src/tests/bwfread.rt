@@ -73,11 +73,13 @@ fn smallest(rt: HostRuntime) -> Result<(), Fail> {
 
 // The same with an extensible format of 40 bytes, whose subformat is PCM.
 const EXTENSIBLE: &[u8] =
-    b"RIFF\x3d\0\0\0WAVEfmt \x28\0\0\0\xfe\xff\x01\0\x44\xac\0\0\x44\xac\0\0\x01\0\x08\0\x16\0\x08\0\0\0\0\0\x01\0\0\0\0\0\x10\0\x80\0\0\xaa\0\x38\x9b\x71data\x01\0\0\0\0";
+    b"RIFF\x3d\0\0\0WAVEfmt \x28\0\0\0\xfe\xff\x01\0\x44\xac\0\0\x44\xac\0\0\x01\0\x08\0\x16\0\x08\
+      \0\0\0\0\0\x01\0\0\0\0\0\x10\0\x80\0\0\xaa\0\x38\x9b\x71data\x01\0\0\0\0";
 
 // The same with a chunk `JUNK` of three bytes and its pad byte before the format.
 const WITH_JUNK: &[u8] =
-    b"RIFF\x31\0\0\0WAVEJUNK\x03\0\0\0abc\0fmt \x10\0\0\0\x01\0\x01\0\x44\xac\0\0\x44\xac\0\0\x01\0\x08\0data\x01\0\0\0\0";
+    b"RIFF\x31\0\0\0WAVEJUNK\x03\0\0\0abc\0\
+      fmt \x10\0\0\0\x01\0\x01\0\x44\xac\0\0\x44\xac\0\0\x01\0\x08\0data\x01\0\0\0\0";
 
 // Whether bytes are read as the smallest file is.
 fn is_smallest(bytes: &[u8]) -> bool {

@@ -177,7 +177,10 @@ fn agreements(alloc: Global, scripts: [&[u8]; 3], orders: usize) -> Option<usize
 fn agree_on_four_places(rt: HostRuntime) {
     let scripts: [&[u8]; 3] = [
         b"add-track head a\n",
-        b"add-track 1.1.00000000-0000-0000-0000-00000000000a y\nadd-track head z\nadd-track head Voice\nadd-clip cc0a0e0651f6e9e304442665437ab61ac3b5302b51bb4a161b144bf9985dfb79 $3 0 0 3\n",
+        b"add-track 1.1.00000000-0000-0000-0000-00000000000a y\n\
+          add-track head z\n\
+          add-track head Voice\n\
+          add-clip cc0a0e0651f6e9e304442665437ab61ac3b5302b51bb4a161b144bf9985dfb79 $3 0 0 3\n",
         b"add-track 1.1.00000000-0000-0000-0000-00000000000a x\n",
     ];
     assert!(rt; agreements(rt.alloc(), scripts, 24) == Some(6));
@@ -188,8 +191,12 @@ fn agree_on_four_places(rt: HostRuntime) {
 fn agree_on_moved_tracks(rt: HostRuntime) {
     let scripts: [&[u8]; 3] = [
         b"add-track head p\nadd-track $1 q\nadd-track $2 r\n",
-        b"move-track 1.1.00000000-0000-0000-0000-00000000000a 3.3.00000000-0000-0000-0000-00000000000a\nadd-track head Voice\nadd-clip cc0a0e0651f6e9e304442665437ab61ac3b5302b51bb4a161b144bf9985dfb79 $2 0 0 3\n",
-        b"move-track 1.1.00000000-0000-0000-0000-00000000000a 2.2.00000000-0000-0000-0000-00000000000a\n",
+        b"move-track 1.1.00000000-0000-0000-0000-00000000000a \
+          3.3.00000000-0000-0000-0000-00000000000a\n\
+          add-track head Voice\n\
+          add-clip cc0a0e0651f6e9e304442665437ab61ac3b5302b51bb4a161b144bf9985dfb79 $2 0 0 3\n",
+        b"move-track 1.1.00000000-0000-0000-0000-00000000000a \
+          2.2.00000000-0000-0000-0000-00000000000a\n",
     ];
     assert!(rt; agreements(rt.alloc(), scripts, 120) == Some(7));
 }
@@ -199,7 +206,9 @@ fn agree_on_moved_tracks(rt: HostRuntime) {
 fn agree_on_a_removed_and_restored_marker(rt: HostRuntime) {
     let scripts: [&[u8]; 3] = [
         b"add-marker 1 News\n",
-        b"restore 1.1.00000000-0000-0000-0000-00000000000a\nadd-track head Voice\nadd-clip cc0a0e0651f6e9e304442665437ab61ac3b5302b51bb4a161b144bf9985dfb79 $2 0 0 3\n",
+        b"restore 1.1.00000000-0000-0000-0000-00000000000a\n\
+          add-track head Voice\n\
+          add-clip cc0a0e0651f6e9e304442665437ab61ac3b5302b51bb4a161b144bf9985dfb79 $2 0 0 3\n",
         b"remove 1.1.00000000-0000-0000-0000-00000000000a\n",
     ];
     assert!(rt; agreements(rt.alloc(), scripts, 6) == Some(5));
@@ -209,9 +218,14 @@ fn agree_on_a_removed_and_restored_marker(rt: HostRuntime) {
 #[test]
 fn agree_on_a_moved_and_removed_clip(rt: HostRuntime) {
     let scripts: [&[u8]; 3] = [
-        b"add-track head Jingle\nadd-clip cc0a0e0651f6e9e304442665437ab61ac3b5302b51bb4a161b144bf9985dfb79 $1 0 0 3\n",
-        b"move-clip 2.2.00000000-0000-0000-0000-00000000000a 1.1.00000000-0000-0000-0000-00000000000a 70\nadd-track head Voice\nadd-clip cc0a0e0651f6e9e304442665437ab61ac3b5302b51bb4a161b144bf9985dfb79 $2 0 0 3\n",
-        b"remove 2.2.00000000-0000-0000-0000-00000000000a\nrestore 2.2.00000000-0000-0000-0000-00000000000a\n",
+        b"add-track head Jingle\n\
+          add-clip cc0a0e0651f6e9e304442665437ab61ac3b5302b51bb4a161b144bf9985dfb79 $1 0 0 3\n",
+        b"move-clip 2.2.00000000-0000-0000-0000-00000000000a \
+          1.1.00000000-0000-0000-0000-00000000000a 70\n\
+          add-track head Voice\n\
+          add-clip cc0a0e0651f6e9e304442665437ab61ac3b5302b51bb4a161b144bf9985dfb79 $2 0 0 3\n",
+        b"remove 2.2.00000000-0000-0000-0000-00000000000a\n\
+          restore 2.2.00000000-0000-0000-0000-00000000000a\n",
     ];
     assert!(rt; agreements(rt.alloc(), scripts, 120) == Some(7));
 }
@@ -250,10 +264,12 @@ fn edits_as_scripted(alloc: Global, log: Log, change: &Change, script: &[u8]) ->
 // three_sample_file, moved by `edit`
 fn moves_as_scripted(alloc: Global, change: &Change) -> Option<bool> {
     let script =
-        b"add-track head Voice\nadd-clip cc0a0e0651f6e9e304442665437ab61ac3b5302b51bb4a161b144bf9985dfb79 $1 0 0 3\n";
+        b"add-track head Voice\n\
+          add-clip cc0a0e0651f6e9e304442665437ab61ac3b5302b51bb4a161b144bf9985dfb79 $1 0 0 3\n";
     let log = went_on(alloc, A, Log::new(alloc), script)?;
     let moved =
-        b"move-clip 2.2.00000000-0000-0000-0000-00000000000a 1.1.00000000-0000-0000-0000-00000000000a 70\n";
+        b"move-clip 2.2.00000000-0000-0000-0000-00000000000a \
+          1.1.00000000-0000-0000-0000-00000000000a 70\n";
     edits_as_scripted(alloc, log, change, moved)
 }
 

@@ -95,7 +95,8 @@ fn bash_completes_commands_below_others(rt: HostRuntime) {
 #[test]
 fn zsh_completes_commands_below_others(rt: HostRuntime) {
     let pieces = [
-        "        archive)\n            _arguments -C -S \\\n                '1:command:( add list)' \\\n",
+        "        archive)\n            _arguments -C -S \\\n                '1:command:( add \
+         list)' \\\n",
         "            case $words[1] in\n        add)\n            _arguments -S",
         "        list)\n",
         "            esac\n            ;;\n",

@@ -18,7 +18,9 @@ use test_kit::{A, B, Refusing, log_of};
 // All that the caller of the log of one marker sends: its Have, 37 bytes, the marker, 51 bytes, and
 // Bye.
 const CALLER: &[u8] =
-    b"\0\0\0\x21\x01\0\0\0\x01\0\0\0\0\0\0\0\0\0\0\0\0\0\0\0\x0a\0\0\0\0\0\0\0\x01\0\0\0\0\0\0\0\x2f\x02\0\0\0\x01\0\0\0\0\0\0\0\x01\0\0\0\0\0\0\0\0\0\0\0\0\0\0\0\x0a\0\0\0\0\0\0\0\x01\x0a\0\0\x01\xe0\x04News\0\0\0\x01\x03";
+    b"\0\0\0\x21\x01\0\0\0\x01\0\0\0\0\0\0\0\0\0\0\0\0\0\0\0\x0a\0\0\0\0\0\0\0\x01\0\0\0\0\0\0\0\
+      \x2f\x02\0\0\0\x01\0\0\0\0\0\0\0\x01\0\0\0\0\0\0\0\0\0\0\0\0\0\0\0\x0a\0\0\0\0\0\0\0\x01\x0a\
+      \0\0\x01\xe0\x04News\0\0\0\x01\x03";
 
 // All that the answerer of the empty log sends: its Have and Bye.
 const ANSWERER: &[u8] = b"\0\0\0\x05\x01\0\0\0\0\0\0\0\x01\x03";

@@ -64,7 +64,9 @@ fn orders_titles_by_their_bytes(rt: HostRuntime) {
 
 // A text of 256 letters.
 const LETTERS: &str =
-    "abcdefghijklmnopabcdefghijklmnopabcdefghijklmnopabcdefghijklmnopabcdefghijklmnopabcdefghijklmnopabcdefghijklmnopabcdefghijklmnopabcdefghijklmnopabcdefghijklmnopabcdefghijklmnopabcdefghijklmnopabcdefghijklmnopabcdefghijklmnopabcdefghijklmnopabcdefghijklmnon";
+    "abcdefghijklmnopabcdefghijklmnopabcdefghijklmnopabcdefghijklmnopabcdefghijklmnopabcdefghijklmn\
+     opabcdefghijklmnopabcdefghijklmnopabcdefghijklmnopabcdefghijklmnopabcdefghijklmnopabcdefghijkl\
+     mnopabcdefghijklmnopabcdefghijklmnopabcdefghijklmnopabcdefghijklmnon";
 
 // Whether a text is a title and its copy is equal, or why it is none.
 fn is_title(alloc: Global, text: &str) -> Result<bool, OpFault> {

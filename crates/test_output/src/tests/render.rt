@@ -16,11 +16,18 @@ use test_kit::{RECORDING, Refusing};
 
 // The log of a track with a clip of the recording, of its three frames.
 const VOICE: &[u8] =
-    b"RMTS\x01\0\0\0\0\0\0\0\x02\0\0\0\0\0\0\0\x01\0\0\0\0\0\0\0\0\0\0\0\0\0\0\0\n\0\0\0\0\0\0\0\x01\x01\0\x05Voice\0\0\0\0\0\0\0\x02\0\0\0\0\0\0\0\0\0\0\0\0\0\0\0\n\0\0\0\0\0\0\0\x02\x03\xcc\n\x0e\x06Q\xf6\xe9\xe3\x04D&eCz\xb6\x1a\xc3\xb50+Q\xbbJ\x16\x1b\x14K\xf9\x98]\xfby\0\0\0\0\0\0\0\x01\0\0\0\0\0\0\0\0\0\0\0\0\0\0\0\n\0\0\0\0\0\0\0\x01\0\0\0\0\0\0\0\0\0\0\0\x03\xec!j\xa9@.\x0c\xb4\x15\xf4\xa9_\x1b\x01U:Y\xbe\x07\xf4F\xd4\xce\x92\x93OK2\xa26\x1f`";
+    b"RMTS\x01\0\0\0\0\0\0\0\x02\
+      \0\0\0\0\0\0\0\x01\0\0\0\0\0\0\0\0\0\0\0\0\0\0\0\n\0\0\0\0\0\0\0\x01\x01\0\x05Voice\
+      \0\0\0\0\0\0\0\x02\0\0\0\0\0\0\0\0\0\0\0\0\0\0\0\n\0\0\0\0\0\0\0\x02\x03\
+      \xcc\n\x0e\x06Q\xf6\xe9\xe3\x04D&eCz\xb6\x1a\xc3\xb50+Q\xbbJ\x16\x1b\x14K\xf9\x98]\xfby\
+      \0\0\0\0\0\0\0\x01\0\0\0\0\0\0\0\0\0\0\0\0\0\0\0\n\0\0\0\0\0\0\0\x01\0\0\0\0\0\0\0\0\
+      \0\0\0\x03\
+      \xec!j\xa9@.\x0c\xb4\x15\xf4\xa9_\x1b\x01U:Y\xbe\x07\xf4F\xd4\xce\x92\x93OK2\xa26\x1f`";
 
 // Another recording, of one frame of 8 bits.
 const ONE_FRAME: &[u8] =
-    b"RIFF\xff\xff\0\0WAVEfmt \x10\0\0\0\x01\0\x01\0\x80\xbb\0\0\0\0\0\0\x01\0\x08\0data\x01\0\0\0\0";
+    b"RIFF\xff\xff\0\0WAVEfmt \x10\0\0\0\x01\0\x01\0\x80\xbb\0\0\0\0\0\0\x01\0\x08\0\
+      data\x01\0\0\0\0";
 
 // How many of these recordings a catalogue has.
 fn count_of<M: Allocator>(catalogue: &Catalogue<'_, M>, files: &[&[u8]]) -> usize {

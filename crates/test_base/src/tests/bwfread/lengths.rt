@@ -44,7 +44,9 @@ fn gives(alloc: Global, list: &[u8], length: Option<u32>) -> Result<bool, AllocE
 #[test]
 fn passes_over_a_length_of_19_bytes(rt: HostRuntime) -> Result<(), Fail> {
     let list =
-        b"adtlltxt\x13\0\0\0\x01\0\0\0\x03\0\0\0rgn \0\0\0\0\0\0\0\0labl\x09\0\0\0\x01\0\0\0News\0\0";
+        b"adtl\
+          ltxt\x13\0\0\0\x01\0\0\0\x03\0\0\0rgn \0\0\0\0\0\0\0\0\
+          labl\x09\0\0\0\x01\0\0\0News\0\0";
     assert!(rt; gives(rt.alloc(), list, None)?);
     Ok(())
 }
@@ -52,7 +54,10 @@ fn passes_over_a_length_of_19_bytes(rt: HostRuntime) -> Result<(), Fail> {
 #[test]
 fn takes_the_first_of_two_lengths(rt: HostRuntime) -> Result<(), Fail> {
     let list =
-        b"adtlltxt\x14\0\0\0\x01\0\0\0\x03\0\0\0beat\0\0\0\0\0\0\0\0ltxt\x14\0\0\0\x01\0\0\0\x04\0\0\0rgn \0\0\0\0\0\0\0\0labl\x09\0\0\0\x01\0\0\0News\0\0";
+        b"adtl\
+          ltxt\x14\0\0\0\x01\0\0\0\x03\0\0\0beat\0\0\0\0\0\0\0\0\
+          ltxt\x14\0\0\0\x01\0\0\0\x04\0\0\0rgn \0\0\0\0\0\0\0\0\
+          labl\x09\0\0\0\x01\0\0\0News\0\0";
     assert!(rt; gives(rt.alloc(), list, Some(3))?);
     Ok(())
 }
@@ -102,7 +107,9 @@ fn passes_over_an_extension_of_601_bytes(rt: HostRuntime) {
 #[test]
 fn passes_over_a_label_and_a_length_that_are_too_long(rt: HostRuntime) -> Result<(), Fail> {
     for list in [
-        b"adtllabl\x09\0\0\0\x01\0\0\0News\0\0ltxt\xff\xff\xff\xff\x01\0\0\0\x03\0\0\0rgn \0\0\0\0\0\0\0\0".as_slice(),
+        b"adtl\
+          labl\x09\0\0\0\x01\0\0\0News\0\0\
+          ltxt\xff\xff\xff\xff\x01\0\0\0\x03\0\0\0rgn \0\0\0\0\0\0\0\0".as_slice(),
         b"adtllabl\x09\0\0\0\x01\0\0\0News\0\0labl\xff\xff\xff\xff\x01\0\0\0Else\0\0",
     ] {
         assert!(rt; gives(rt.alloc(), list, None)?);
