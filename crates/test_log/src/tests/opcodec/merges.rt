@@ -1,5 +1,4 @@
-//! Logs that are merged: in all groupings and orders, with another operation of one dot, and in
-//! several versions.
+//! Merged logs: in all groupings and orders, with conflicting operations, and in several versions.
 use mt_opcodec::{Log, LogFault, read_op};
 use mt_stamp::Dot;
 use std::alloc::Global;
@@ -11,7 +10,7 @@ const X: &[u8] =
       \0\0\0\0\0\0\0\x01\0\0\0\0\0\0\0\0\0\0\0\0\0\0\0\n\0\0\0\0\0\0\0\x01\n\0\0\x01\xe0\x04News\
       V\xbc\xa5\xd5\x94\x11\xf1\x8b%\xd0Kj\xc5\xc7y=\x90f+\xb3z,\x84'+3\x07Ox\x0e\x8f\x0c";
 
-// The same, and a new title of it, `(2, B, 1)`.
+// That marker, and a new title of it, `(2, B, 1)`.
 const Y: &[u8] =
     b"RMTS\x01\0\0\0\0\0\0\0\x02\
       \0\0\0\0\0\0\0\x01\0\0\0\0\0\0\0\0\0\0\0\0\0\0\0\n\0\0\0\0\0\0\0\x01\n\0\0\x01\xe0\x04News\
@@ -35,7 +34,7 @@ const UNION: &[u8] =
       \0\0\0\0\0\0\0\x01\0\0\0\0\0\0\0\0\0\0\0\0\0\0\0\x0b\0\0\0\0\0\0\0\x07\n\0\0\x03\xc0\x05Coast\
       \xccc\x8bH\x0b\x1e~'zO\xb1p^}\xc7\xeb\xc0\xfb\xd7A\xf6e?\x10\xd2uV+\xbb\xea\xe4\xaf";
 
-// Another operation of the dot `(A, 1)`.
+// Another operation with the dot `(A, 1)`.
 const OTHER: &[u8] =
     b"RMTS\x01\0\0\0\0\0\0\0\x01\
       \0\0\0\0\0\0\0\x01\0\0\0\0\0\0\0\0\0\0\0\0\0\0\0\n\0\0\0\0\0\0\0\x01\n\0\0\x01\xe0\x05Other\
@@ -47,7 +46,7 @@ fn union_of(alloc: Global, left: &[u8], right: &[u8]) -> Result<Log, LogFault> {
     Log::merge(alloc, &left, &Log::read(alloc, right)?)
 }
 
-// Whether a log has these bytes once another is merged to it, from the left and from the right.
+// Whether a log has these bytes after another is merged to it, from the left and from the right.
 fn is_with(alloc: Global, log: &Log, other: &[u8], wanted: &[u8]) -> Result<bool, LogFault> {
     let other = Log::read(alloc, other)?;
     let last = Log::merge(alloc, log, &other)?.write()?;
@@ -55,7 +54,7 @@ fn is_with(alloc: Global, log: &Log, other: &[u8], wanted: &[u8]) -> Result<bool
     Ok(last.as_slice() == wanted && first.as_slice() == wanted)
 }
 
-// Whether three logs have these bytes together, however they are grouped.
+// Whether the union of three logs has these bytes, however they are grouped.
 fn come_to(alloc: Global, [a, b, c]: [&[u8]; 3], wanted: &[u8]) -> Result<bool, LogFault> {
     let log = union_of(alloc, a, b)?;
     is_with(alloc, &log, c, wanted)
@@ -95,7 +94,7 @@ fn tell_another_operation_of_a_dot(rt: HostRuntime) {
     assert!(rt; adds(rt.alloc(), Z, &X[13..]) == Ok(true));
 }
 
-// A track, a clip on it and a fade of that: operations of 36, 109 and 73 bytes.
+// A track, a clip on it and a fade of the clip: operations of 36, 109 and 73 bytes.
 const FADED: &[u8] =
     b"RMTS\x02\0\0\0\0\0\0\0\x03\
       \0\0\0\0\0\0\0\x01\0\0\0\0\0\0\0\0\0\0\0\0\0\0\0\n\0\0\0\0\0\0\0\x01\x01\0\x01V\
@@ -107,7 +106,7 @@ const FADED: &[u8] =
       \0\0\0\0\0\0\0\x02\0\0\0\0\0\0\0\0\0\0\0\0\0\0\0\n\0\0\0\0\0\0\0\x02\0\0\0\x02\0\0\0\x01\
       \x01?]H<\x8b\x10\x82F9\x95\xf3l\0\x8b\xba\xcbA\x9cO\xa3W\xb3\xbem\xb39\x9c\xf3G\xcdw";
 
-// The same without the fade.
+// The track and the clip, without the fade.
 const PLAIN: &[u8] =
     b"RMTS\x01\0\0\0\0\0\0\0\x02\
       \0\0\0\0\0\0\0\x01\0\0\0\0\0\0\0\0\0\0\0\0\0\0\0\n\0\0\0\0\0\0\0\x01\x01\0\x01V\
@@ -117,7 +116,7 @@ const PLAIN: &[u8] =
       \0\0\0\x03\
       M}PX)K\xdc2\x02\x8da\x1a\xb2\xfa\x01\x92\"\xd1\x08+Y\xab\xd9\xef\x17~\xc5]3\x04sz";
 
-// The same in version 2, which it does not need.
+// The track and the clip in version 2, which they do not need.
 const PLAIN_IN_VERSION_2: &[u8] =
     b"RMTS\x02\0\0\0\0\0\0\0\x02\
       \0\0\0\0\0\0\0\x01\0\0\0\0\0\0\0\0\0\0\0\0\0\0\0\n\0\0\0\0\0\0\0\x01\x01\0\x01V\
@@ -127,7 +126,7 @@ const PLAIN_IN_VERSION_2: &[u8] =
       \0\0\0\x03\
       \x16@\"C\xddl\"\xaaN\x8c\nh\x09c+sF\"\x9cb\x98\x80\xeca\xb7\x1d1R\xfe^(\x8a";
 
-// A marker and its length, of 96 frames.
+// A marker and its length, 96 frames.
 const SPANNED: &[u8] =
     b"RMTS\x03\0\0\0\0\0\0\0\x02\
       \0\0\0\0\0\0\0\x01\0\0\0\0\0\0\0\0\0\0\0\0\0\0\0\n\0\0\0\0\0\0\0\x01\n\0\0\x01\xe0\x04News\
@@ -135,7 +134,7 @@ const SPANNED: &[u8] =
       \0\0\0\0\0\0\0\x01\0\0\0\0\0\0\0\0\0\0\0\0\0\0\0\n\0\0\0\0\0\0\0\x01\0\0\0`\
       \xcai\x9e~l\x13\xb8\x98t\"\x8e\xb1\x92g\x9b\xeb\xbdR\x8c\xc6G\x9c\xc5)?\x0f`\xb4\x8c\xf8|L";
 
-// A track, a clip and a fade, as B made them.
+// A track, a clip and a fade, created by B.
 const FADED_BY_B: &[u8] =
     b"RMTS\x02\0\0\0\0\0\0\0\x03\
       \0\0\0\0\0\0\0\x01\0\0\0\0\0\0\0\0\0\0\0\0\0\0\0\x0b\0\0\0\0\0\0\0\x01\x01\0\x01V\
@@ -147,7 +146,7 @@ const FADED_BY_B: &[u8] =
       \0\0\0\0\0\0\0\x02\0\0\0\0\0\0\0\0\0\0\0\0\0\0\0\x0b\0\0\0\0\0\0\0\x02\0\0\0\x02\0\0\0\x01\
       7F\xe9:(\xb6\xa5\xd3`\xbd\x02\xd7Z\xaa5\x07u\"B\x19\xabBf\xc4\xd8\xf8g\xf8\xe6\x134\x1a";
 
-// The last two together.
+// The last two logs together.
 const ALL_VERSIONS: &[u8] =
     b"RMTS\x03\0\0\0\0\0\0\0\x05\
       \0\0\0\0\0\0\0\x01\0\0\0\0\0\0\0\0\0\0\0\0\0\0\0\n\0\0\0\0\0\0\0\x01\n\0\0\x01\xe0\x04News\
@@ -163,7 +162,7 @@ const ALL_VERSIONS: &[u8] =
       \xf6,\xdd\xcc\x0b\x90\xaf\xbd\x0d\x12\x91\xffD\0\x0e\xd9\x19\x18!\xda{\xbc\xfd\xd8\x9d\xbcNAj\
       \x7f\xd1\x9a";
 
-// Whether two logs have these bytes together, whichever comes first.
+// Whether the union of two logs has these bytes, in either order.
 fn are_merged(alloc: Global, left: &[u8], right: &[u8], wanted: &[u8]) -> Result<bool, LogFault> {
     let left = Log::read(alloc, left)?;
     is_with(alloc, &left, right, wanted)
