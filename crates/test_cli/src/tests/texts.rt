@@ -1,7 +1,7 @@
-//! What the commands read and write, worked out by hand or by a second reading of the formats
+//! The input and output of the commands, worked out by hand or by the Python model of the formats
 //! (`tests/formats`).
 
-/// The log of no operation.
+/// The log without operations.
 pub(crate) const EMPTY: &[u8] =
     b"RMTS\x01\0\0\0\0\0\0\0\0\
       \x11\x16\xdd\xab\xe2:a\xd2\xbd\xea\xf3\x06\x06\x0d\xd62;\xc4\xbc\xc6\xb9\xeb\xc9\x85\xe13n\
@@ -34,7 +34,7 @@ pub(crate) const BOTH: &[u8] =
 pub(crate) const SHOWN: &[u8] =
     b"marker 1.1.00000000-0000-0000-0000-00000000000a at 480 title Late\nheld 0\n";
 
-/// The same as an object for each line, with times.
+/// That session as an object for each line, with times.
 pub(crate) const OBJECTS: &[u8] = b"\
 {\"marker\":\"1.1.00000000-0000-0000-0000-00000000000a\",\"at\":\"0:00:00.010\",\"title\":\"Late\"}
 {\"held\":0}
@@ -52,7 +52,7 @@ pub(crate) const LOUD: &[u8] =
     b"RIFF,\0\0\0WAVEfmt \x10\0\0\0\x01\0\x01\0\x80\xbb\0\0\0w\x01\0\x02\0\x10\0\
       data\x08\0\0\0\0\0\0@\0\x80\0 ";
 
-/// The log of a track with a clip of its four frames.
+/// The log of a track with a clip of the four frames of that file.
 pub(crate) const LOUD_VOICE: &[u8] =
     b"RMTS\x01\0\0\0\0\0\0\0\x02\
       \0\0\0\0\0\0\0\x01\0\0\0\0\0\0\0\0\0\0\0\0\0\0\0\n\0\0\0\0\0\0\0\x01\x01\0\x05Voice\
@@ -63,7 +63,7 @@ pub(crate) const LOUD_VOICE: &[u8] =
       \x07\xc7\xb9\x8bV\xba\xdd\xdc\x1a+\xfc7M\xe7\x92\x81\xa5\xe7\x0c J3S\xbf\xfe\x03Cq5\xbd\xd3\
       \xde";
 
-/// The picture of that, with the peaks of the file.
+/// The picture of that log, with the peaks of the file.
 pub(crate) const PICTURE: &[u8] = b"\
 <svg xmlns=\"http://www.w3.org/2000/svg\" width=\"1560\" height=\"120\" viewBox=\"0 0 1560 120\" \
 font-family=\"sans-serif\" font-size=\"13\">
@@ -89,33 +89,33 @@ font-family=\"sans-serif\" font-size=\"13\">
 </svg>
 ";
 
-/// What is told of the second, which was brought to the first.
+/// The report on the second log, which was pulled into the first.
 pub(crate) const PULLED: &[u8] = b"from home.log new 1 shared 0\nops 2\n";
 
-/// The script that makes the first, and what is told of it.
+/// The script that creates the first log, and its report.
 pub(crate) const SCRIPT: &[u8] = b"add-marker 480 News\n";
 
-/// The same with a time, at 48,000 frames a second.
+/// That script with a time, at 48,000 frames per second.
 pub(crate) const TIMED_SCRIPT: &[u8] = b"add-marker 0.01s News\n";
 
 pub(crate) const EDITED: &[u8] = b"ops 1\n";
 
-/// What the editor of the first has.
+/// The summary of the editor of the first log.
 pub(crate) const HAS_NEWS: &[u8] =
     b"\0\0\0!\x01\0\0\0\x01\0\0\0\0\0\0\0\0\0\0\0\0\0\0\0\n\0\0\0\0\0\0\0\x01\0\0\0\0";
 
-/// What the editor of none has.
+/// The summary of the editor without operations.
 pub(crate) const HAS_NOTHING: &[u8] = b"\0\0\0\x05\x01\0\0\0\0";
 
-/// What that one answers in a conversation: that, and Bye.
+/// The reply of that editor in a conversation: its summary, and Bye.
 pub(crate) const ANSWER: &[u8] = b"\0\0\0\x05\x01\0\0\0\0\0\0\0\x01\x03";
 
-/// What is sent to that one: the first, and Bye.
+/// The bytes that are sent to that editor: the first log's operation, and Bye.
 pub(crate) const SENT: &[u8] =
     b"\0\0\0/\x02\0\0\0\x01\0\0\0\0\0\0\0\x01\0\0\0\0\0\0\0\0\0\0\0\0\0\0\0\n\0\0\0\0\0\0\0\x01\n\0\
       \0\x01\xe0\x04News\0\0\0\x01\x03";
 
-/// The log of a track with a clip of test_kit's recording, of its three frames.
+/// The log of a track with a clip of the three frames of test_kit's recording.
 pub(crate) const VOICE: &[u8] =
     b"RMTS\x01\0\0\0\0\0\0\0\x02\
       \0\0\0\0\0\0\0\x01\0\0\0\0\0\0\0\0\0\0\0\0\0\0\0\n\0\0\0\0\0\0\0\x01\x01\0\x05Voice\
@@ -125,29 +125,29 @@ pub(crate) const VOICE: &[u8] =
       \0\0\0\x03\
       \xec!j\xa9@.\x0c\xb4\x15\xf4\xa9_\x1b\x01U:Y\xbe\x07\xf4F\xd4\xce\x92\x93OK2\xa26\x1f`";
 
-/// The timeline of that, in three columns.
+/// The timeline of that log, in three columns.
 pub(crate) const DRAWN_VOICE: &[u8] =
     b"markers ...\nVoice   [==\nspan 3 0:00:00.000 column 1 0:00:00.000\n";
 
-/// What is told of the recording that the log plays.
+/// The report on the recording that the log plays.
 pub(crate) const PLAYED: &[u8] =
     b"source cc0a0e0651f6e9e304442665437ab61ac3b5302b51bb4a161b144bf9985dfb79 clips 1 audible 1 \
       end 3 rate 48000 channels 1 frames 3 file voice.wav\n\
       missing 0\n";
 
-/// The stamps of the marker of both, and of the clip of that recording.
+/// The stamps of the marker of both logs, and of the clip of that recording.
 pub(crate) const FOUND_MARKER: &[u8] = b"1.1.00000000-0000-0000-0000-00000000000a\n";
 
 pub(crate) const FOUND_CLIP: &[u8] = b"2.2.00000000-0000-0000-0000-00000000000a\n";
 
-/// The first two logs beside each other.
+/// The first two logs compared.
 pub(crate) const COMPARED: &[u8] = b"\
 - 1.1.00000000-0000-0000-0000-00000000000a add-marker 480 News
 + 2.1.00000000-0000-0000-0000-00000000000b retitle 1.1.00000000-0000-0000-0000-00000000000a Late
 left 1 right 1 both 0 clashes 0
 ";
 
-/// The same, with the field that both write.
+/// The first two logs compared, with the field that both write.
 pub(crate) const COMPARED_FIELDS: &[u8] = b"\
 - 1.1.00000000-0000-0000-0000-00000000000a add-marker 480 News
 + 2.1.00000000-0000-0000-0000-00000000000b retitle 1.1.00000000-0000-0000-0000-00000000000a Late
@@ -156,7 +156,7 @@ both 1.1.00000000-0000-0000-0000-00000000000a title 1.1.00000000-0000-0000-0000-
 left 1 right 1 both 0 clashes 0
 ";
 
-/// The sessions of what is sent to the one of none, and of the second, beside each other.
+/// The sessions of the sent operations and of the second log compared.
 pub(crate) const COMPARED_VIEWS: &[u8] = b"\
 - marker 1.1.00000000-0000-0000-0000-00000000000a at 480 title News
 - held 0
@@ -164,7 +164,7 @@ pub(crate) const COMPARED_VIEWS: &[u8] = b"\
 left 1 right 1 both 0 clashes 0
 ";
 
-/// The script that takes the second back.
+/// The script that reverts the second log.
 pub(crate) const REVERTED: &[u8] = b"retitle 1.1.00000000-0000-0000-0000-00000000000a News\n";
 
 /// The lines that lay that recording twice, from frame 5 on and with two frames between.
@@ -173,7 +173,7 @@ add-clip cc0a0e0651f6e9e304442665437ab61ac3b5302b51bb4a161b144bf9985dfb79 $1 5 0
 add-clip cc0a0e0651f6e9e304442665437ab61ac3b5302b51bb4a161b144bf9985dfb79 $1 10 0 3
 ";
 
-/// The file of that, of 692 bytes.
+/// The rendered file of that log, 692 bytes.
 pub(crate) const FILE: [&[u8]; 7] = [
     b"RIFF\xac\x02\0\0WAVEbext\x75\x02\0\0",
     &[0; 320],
@@ -184,8 +184,8 @@ pub(crate) const FILE: [&[u8]; 7] = [
     b"data\x09\0\0\0\x01\0\0\x02\0\0\x03\0\0\0",
 ];
 
-/// Two frames of 24 bits; three labels, of which two have one name and one that of no cue point; a
-/// length; three cue points, of which two have one name.
+/// Two frames of 24 bits; three labels, of which two have the same identifier and one that of no
+/// cue point; a length; three cue points, of which two have the same identifier.
 pub(crate) const LABELLED: &[u8] =
     b"RIFF\xe2\0\0\0WAVEfmt \x10\0\0\0\x01\0\x01\0\x80\xbb\0\0\x80\x32\x02\0\x03\0\x18\0\
       data\x06\0\0\0\x01\0\0\xff\xff\xffLIST\x5c\0\0\0adtllabl\x0d\0\0\0\x01\0\0\0News\0left\0\
@@ -195,7 +195,7 @@ pub(crate) const LABELLED: &[u8] =
       data\0\0\0\0\0\0\0\0\x05\0\0\0\x02\0\0\0\x07\0\0\0\
       data\0\0\0\0\0\0\0\0\xff\xff\xff\xff\x01\0\0\0\x07\0\0\0data\0\0\0\0\0\0\0\0\0\0\0\0";
 
-/// What it says of itself.
+/// The report on that file.
 pub(crate) const TOLD: &[u8] = b"\
 digest 5d0f72386959c32dfd34c1abf6497c91c9a29f32a5bab5427ce1675cef9bd316
 rate 48000
@@ -208,15 +208,15 @@ cue 2 at 4294967295
 cue 1 at 0 len 3 label News
 ";
 
-/// One frame of 8 bits, and no pad byte after it; what it says of itself but for its digest.
+/// One frame of 8 bits, without a final pad byte; and the report on it without its digest.
 pub(crate) const SMALLEST: &[u8] =
     b"RIFF\x25\0\0\0WAVEfmt \x10\0\0\0\x01\0\x01\0\x44\xac\0\0\x44\xac\0\0\x01\0\x08\0\
       data\x01\0\0\0\0";
 
 pub(crate) const ONE_FRAME: &[u8] = b"\nrate 44100\nchannels 1\nbits 8\nframes 1\nbext none\n";
 
-/// The same with a count of 4,294,967,295 cue points, of which none is there, and with a label and
-/// a length that tell as many bytes.
+/// That file with a count of 4,294,967,295 cue points, of which none is there, and with a label and
+/// a length that claim as many bytes.
 pub(crate) const PROMISING: &[u8] =
     b"RIFF\xff\xff\0\0WAVEfmt \x10\0\0\0\x01\0\x01\0\x44\xac\0\0\x44\xac\0\0\x01\0\x08\0\
       data\x01\0\0\0\0\0cue \x04\0\0\0\xff\xff\xff\xffLIST\x12\0\0\0adtl\

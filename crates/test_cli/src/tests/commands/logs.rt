@@ -1,6 +1,6 @@
 //! Logs, messages and scripts that the program reads and writes.
 
-/// No operation.
+/// No operations.
 pub(crate) const EMPTY: &[u8] =
     b"RMTS\x01\0\0\0\0\0\0\0\0\
       \x11\x16\xdd\xab\xe2:a\xd2\xbd\xea\xf3\x06\x06\x0d\xd62;\xc4\xbc\xc6\xb9\xeb\xc9\x85\xe13n\
@@ -87,14 +87,14 @@ pub(crate) const REMOVED: &[u8] =
       \0\0\0\0\0\0\0\x01\0\0\0\0\0\0\0\0\0\0\0\0\0\0\0\n\0\0\0\0\0\0\0\x01\
       \x1aBR\xf4\xd5\xc8)\xfcu\xfd)\xab\x07\xd3~1\x86z\xcd\xfes'p\xc8\xb3\x83\xb4\xd8\x93\xc5\xb7G";
 
-/// It is restored.
+/// The marker is restored.
 pub(crate) const RESTORED: &[u8] =
     b"RMTS\x01\0\0\0\0\0\0\0\x01\
       \0\0\0\0\0\0\0\x02\0\0\0\0\0\0\0\0\0\0\0\0\0\0\0\x0b\0\0\0\0\0\0\0\x01\x09\
       \0\0\0\0\0\0\0\x01\0\0\0\0\0\0\0\0\0\0\0\0\0\0\0\n\0\0\0\0\0\0\0\x01\
       ~G\xb3\x08/\x19\xefDEi}6\xb4\x02\xd0!2\xc9\x9bS\xd2\xb8\xaf(\xb6'Hr\x96'\x81\xef";
 
-/// It is removed with both tags.
+/// The marker is removed with both tags.
 pub(crate) const REMOVED_AGAIN: &[u8] =
     b"RMTS\x01\0\0\0\0\0\0\0\x02\
       \0\0\0\0\0\0\0\x02\0\0\0\0\0\0\0\0\0\0\0\0\0\0\0\n\0\0\0\0\0\0\0\x02\x08\
@@ -126,7 +126,7 @@ pub(crate) const MOVED_CLIP: &[u8] =
       \0\0\0\0\0\0\0\x01\0\0\0\0\0\0\0\0\0\0\0\0\0\0\0\n\0\0\0\0\0\0\0\x01\0\0\0F\
       \xd2U\x14=]z9\x06,S\xdbP\xa2\xc9\x98`\\\xb1\x8e\x83+5T\x13\xd3\xc2\x9c\x81\x08i\xff/";
 
-/// It is removed.
+/// The clip is removed.
 pub(crate) const REMOVED_CLIP: &[u8] =
     b"RMTS\x01\0\0\0\0\0\0\0\x01\
       \0\0\0\0\0\0\0\x05\0\0\0\0\0\0\0\0\0\0\0\0\0\0\0\n\0\0\0\0\0\0\0\x05\x08\
@@ -135,7 +135,7 @@ pub(crate) const REMOVED_CLIP: &[u8] =
       \xe9%\xfa\xe0\xe1\x91<2a\xd7\xf2\xa3\xfa\xfem\x93l{\x11\x98\x09\x9c\xdd\"p\xc4\xa8TU\x99\xec\
       L";
 
-/// It is removed and restored.
+/// The clip is removed and restored.
 pub(crate) const RESTORED_CLIP: &[u8] =
     b"RMTS\x01\0\0\0\0\0\0\0\x02\
       \0\0\0\0\0\0\0\x05\0\0\0\0\0\0\0\0\0\0\0\0\0\0\0\n\0\0\0\0\0\0\0\x05\x08\
@@ -152,7 +152,7 @@ pub(crate) const GAIN_OF_A_MARKER: &[u8] =
       \0\0\0\0\0\0\0\x01\0\0\0\0\0\0\0\0\0\0\0\0\0\0\0\n\0\0\0\0\0\0\0\x01\0\x01\0\x02\
       \x84\x9f\x8d\x18M\xf7E\xecq\xa2i\xc6\n\xad\xa2U2Z'\x94\x1c\x93\x98\xfd\xb8PY\0\x93\xe5\xaaN";
 
-/// Another marker, and a removal of the first that lists its tag.
+/// Another marker, and a Remove of the first one that lists the other's tag.
 pub(crate) const TAG_OF_ANOTHER: &[u8] =
     b"RMTS\x01\0\0\0\0\0\0\0\x02\
       \0\0\0\0\0\0\0\x02\0\0\0\0\0\0\0\0\0\0\0\0\0\0\0\n\0\0\0\0\0\0\0\x02\x08\
@@ -180,7 +180,7 @@ pub(crate) const P_REMOVED: &[u8] =
       \xa2\xbeg\x90\x06y\x0f*\xe1\xac\xbb\xccN\x07\xab\xe8;\x9bh\x89fj\x93\xce\xddJ\x1c@\x86\xf0\
       \x09g";
 
-/// It is removed and restored.
+/// The track `p` is removed and restored.
 pub(crate) const P_RESTORED: &[u8] =
     b"RMTS\x01\0\0\0\0\0\0\0\x02\
       \0\0\0\0\0\0\0\x03\0\0\0\0\0\0\0\0\0\0\0\0\0\0\0\n\0\0\0\0\0\0\0\x03\x08\
@@ -191,7 +191,7 @@ pub(crate) const P_RESTORED: &[u8] =
       ~\xcax\xff\x05~\x8839\x8f\x17\xc0\x84.\xde\x9e\xb4\x0e\xed.\xd0\x0d\x07r\xd7\xad\x14\xfe'\xa2\
       \x06\xf0";
 
-/// A clip on it.
+/// A clip on `p`.
 pub(crate) const CLIP_ON_P: &[u8] =
     b"RMTS\x01\0\0\0\0\0\0\0\x01\
       \0\0\0\0\0\0\0\x02\0\0\0\0\0\0\0\0\0\0\0\0\0\0\0\x0b\0\0\0\0\0\0\0\x01\x03\
@@ -218,7 +218,7 @@ pub(crate) const FADE_OF_A: &[u8] =
       \x15u\xee%^C\xa3-\x89`\xac\xdf\xe3K>\x80\x17\x10\xb5\x09\x16\x97\xb6\xc7\xe0=!\x03\xd9\x90\
       \xb5\xd3";
 
-/// A fade of it over five frames.
+/// A fade of the clip over five frames.
 pub(crate) const FADE_OF_B: &[u8] =
     b"RMTS\x02\0\0\0\0\0\0\0\x01\
       \0\0\0\0\0\0\0\x03\0\0\0\0\0\0\0\0\0\0\0\0\0\0\0\x0b\0\0\0\0\0\0\0\x01\x0d\
@@ -233,7 +233,7 @@ pub(crate) const LONG_MARKER: &[u8] =
       \0\0\0\0\0\0\0\x01\0\0\0\0\0\0\0\0\0\0\0\0\0\0\0\n\0\0\0\0\0\0\0\x01\0\0\0`\
       \xcai\x9e~l\x13\xb8\x98t\"\x8e\xb1\x92g\x9b\xeb\xbdR\x8c\xc6G\x9c\xc5)?\x0f`\xb4\x8c\xf8|L";
 
-/// A track with a clip of it.
+/// A track with a clip of the recording of three samples.
 pub(crate) const ONE_CLIP: &[u8] =
     b"RMTS\x01\0\0\0\0\0\0\0\x02\
       \0\0\0\0\0\0\0\x01\0\0\0\0\0\0\0\0\0\0\0\0\0\0\0\n\0\0\0\0\0\0\0\x01\x01\0\x05Voice\
@@ -266,7 +266,7 @@ pub(crate) const MARKED_AT_END: &[u8] =
       \0\0\0\0\0\0\0\x03\0\0\0\0\0\0\0\0\0\0\0\0\0\0\0\n\0\0\0\0\0\0\0\x03\n\0\0\0\x03\x04News\
       Bc\xc56\x06\xa1\xb1\x14\xb3.'\x03\xae*y\x9duR\xf1!\x0b\xab\xca\xf8\xc3\xb3u\xd8\xe4hu\xa7";
 
-/// The same with the length 5.
+/// The clip, and the marker with the length 5.
 pub(crate) const LENGTHENED: &[u8] =
     b"RMTS\x03\0\0\0\0\0\0\0\x04\
       \0\0\0\0\0\0\0\x01\0\0\0\0\0\0\0\0\0\0\0\0\0\0\0\n\0\0\0\0\0\0\0\x01\x01\0\x05Voice\
@@ -279,7 +279,7 @@ pub(crate) const LENGTHENED: &[u8] =
       \0\0\0\0\0\0\0\x03\0\0\0\0\0\0\0\0\0\0\0\0\0\0\0\n\0\0\0\0\0\0\0\x03\0\0\0\x05\
       \x82/_\xe8\xd3=\xb27\xd5\x1d\xfd]%<\x09\xbe^\x84\xd0\xa2&1\xa1\x8cx$`\x7f8\x0bY\x8e";
 
-/// The same with the length 0 again.
+/// The clip, and the marker with the length 0 again.
 pub(crate) const SHORTENED: &[u8] =
     b"RMTS\x03\0\0\0\0\0\0\0\x05\
       \0\0\0\0\0\0\0\x01\0\0\0\0\0\0\0\0\0\0\0\0\0\0\0\n\0\0\0\0\0\0\0\x01\x01\0\x05Voice\
@@ -307,7 +307,7 @@ pub(crate) const MUTED: &[u8] =
       \0\0\0\0\0\0\0\x02\0\0\0\0\0\0\0\0\0\0\0\0\0\0\0\n\0\0\0\0\0\0\0\x02\x01\
       \xab\x9d}qZI\xa2\xefg\xef\xcb\xf3G\x0229\xbd\x7f\xf8\xec\x9d\xb2H\xa1\x1f0\x9b\xfaX$\x01\xc9";
 
-/// A clip of it.
+/// A clip of the recording at another rate.
 pub(crate) const LOW_CLIP: &[u8] =
     b"RMTS\x01\0\0\0\0\0\0\0\x02\
       \0\0\0\0\0\0\0\x01\0\0\0\0\0\0\0\0\0\0\0\0\0\0\0\n\0\0\0\0\0\0\0\x01\x01\0\x05Voice\
@@ -333,7 +333,7 @@ pub(crate) const BOTH_CLIPS: &[u8] =
       \x9b\xa1\\\xa7+\x102:\x1e\n\xf2\xc6\x03\xe6C#\x86e\xd6\xff\xb5/\x14\x03a\x8d<\xb3\\\xef\xb0\
       \xc8";
 
-/// A clip of it at the last frame.
+/// A clip of the recording with one sample, at the last frame.
 pub(crate) const LAST_FRAME: &[u8] =
     b"RMTS\x01\0\0\0\0\0\0\0\x02\
       \0\0\0\0\0\0\0\x01\0\0\0\0\0\0\0\0\0\0\0\0\0\0\0\n\0\0\0\0\0\0\0\x01\x01\0\x05Voice\
@@ -354,7 +354,7 @@ pub(crate) const FIVE_MARKERS: &[u8] =
       \0\0\0\0\0\0\0\x05\0\0\0\0\0\0\0\0\0\0\0\0\0\0\0\x0b\0\0\0\0\0\0\0\x01\n\0\0\x01\xe0\x04News\
       \x80w\0\x7f.J\xcd\xa4\xa9V\xc4T?<\xa2\xaf\xec\x11|@\xddcl\xa912pkL\xf1-\x09";
 
-/// Those without the third of A and the one of B.
+/// These markers without the third of A and the one of B.
 pub(crate) const OF_THEM: &[u8] =
     b"RMTS\x01\0\0\0\0\0\0\0\x03\
       \0\0\0\0\0\0\0\x01\0\0\0\0\0\0\0\0\0\0\0\0\0\0\0\n\0\0\0\0\0\0\0\x01\n\0\0\x01\xe0\x04News\
@@ -362,18 +362,18 @@ pub(crate) const OF_THEM: &[u8] =
       \0\0\0\0\0\0\0\x04\0\0\0\0\0\0\0\0\0\0\0\0\0\0\0\n\0\0\0\0\0\0\0\x04\n\0\0\x01\xe0\x04News\
       \xba4\x03_\x87\x9c*\xce3\xba\xf9\xfc;\xec`_yP_\x94q]\xbe\xd5\xb2&i\xc8\xed\xad\x9a\xe1";
 
-/// What the latter has.
+/// The summary of the latter log.
 pub(crate) const THEIR_SUMMARY: &[u8] =
     b"\0\0\0)\x01\0\0\0\x01\0\0\0\0\0\0\0\0\0\0\0\0\0\0\0\n\0\0\0\0\0\0\0\x02\0\0\0\x01\0\0\0\0\0\0\
       \0\x04";
 
-/// The two operations, and Bye.
+/// The two missing operations, and Bye.
 pub(crate) const LACKING: &[u8] =
     b"\0\0\0Y\x02\0\0\0\x02\0\0\0\0\0\0\0\x03\0\0\0\0\0\0\0\0\0\0\0\0\0\0\0\n\0\0\0\0\0\0\0\x03\n\0\
       \0\x01\xe0\x04News\0\0\0\0\0\0\0\x05\0\0\0\0\0\0\0\0\0\0\0\0\0\0\0\x0b\0\0\0\0\0\0\0\x01\n\0\
       \0\x01\xe0\x04News\0\0\0\x01\x03";
 
-/// The same without Bye.
+/// The two missing operations, without Bye.
 pub(crate) const UNENDED: &[u8] =
     b"\0\0\0Y\x02\0\0\0\x02\0\0\0\0\0\0\0\x03\0\0\0\0\0\0\0\0\0\0\0\0\0\0\0\n\0\0\0\0\0\0\0\x03\n\0\
       \0\x01\xe0\x04News\0\0\0\0\0\0\0\x05\0\0\0\0\0\0\0\0\0\0\0\0\0\0\0\x0b\0\0\0\0\0\0\0\x01\n\0\
@@ -386,15 +386,15 @@ pub(crate) const SCRIPT_OF_FOUR: &[u8] =
       gain $2 1/2\n\
       add-marker 480 News\n";
 
-/// The same with `mute $1 yes` in the second line.
+/// That script with `mute $1 yes` in the second line.
 pub(crate) const BAD_LINE: &[u8] =
     b"add-track head Voice\nmute $1 yes\ngain $2 1/2\nadd-marker 480 News\n";
 
-/// The same with `trim-clip $1 0 5` there.
+/// That script with `trim-clip $1 0 5` in the second line.
 pub(crate) const REFUSED_LINE: &[u8] =
     b"add-track head Voice\ntrim-clip $1 0 5\ngain $2 1/2\nadd-marker 480 News\n";
 
-/// What the script makes.
+/// The log that the script creates.
 pub(crate) const FOUR_MADE: &[u8] =
     b"RMTS\x01\0\0\0\0\0\0\0\x04\
       \0\0\0\0\0\0\0\x01\0\0\0\0\0\0\0\0\0\0\0\0\0\0\0\n\0\0\0\0\0\0\0\x01\x01\0\x05Voice\

@@ -1,4 +1,4 @@
-//! Wave files that the program writes, and what it refuses to write.
+//! Wave files that the program writes, and calls that fail.
 
 use super::logs::{
     BOTH_CLIPS, EMPTY, LAST_FRAME, LENGTHENED, LOW_CLIP, MARKED, MARKED_AT_END, MUTED, ONE_CLIP,

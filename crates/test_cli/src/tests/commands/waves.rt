@@ -9,7 +9,7 @@ pub(crate) const THREE_SAMPLES: &[u8] =
     b"RIFF.\0\0\0WAVEfmt \x10\0\0\0\x01\0\x01\0\x80\xbb\0\0\x802\x02\0\x03\0\x18\0\
       data\x09\0\0\0\x01\0\0\x02\0\0\x03\0\0\0";
 
-/// The file of that.
+/// The rendered file of that recording.
 pub(crate) const THREE_FILE: &[u8] =
     b"RIFF\xac\x02\0\0WAVEbextu\x02\0\0\0\0\0\0\0\0\0\0\0\0\0\0\0\0\0\0\0\0\0\0\0\0\0\0\0\0\0\0\0\0\
       \0\0\0\0\0\0\0\0\0\0\0\0\0\0\0\0\0\0\0\0\0\0\0\0\0\0\0\0\0\0\0\0\0\0\0\0\0\0\0\0\0\0\0\0\0\0\
@@ -28,7 +28,7 @@ pub(crate) const THREE_FILE: &[u8] =
       fmt \x10\0\0\0\x01\0\x01\0\x80\xbb\0\0\x802\x02\0\x03\0\x18\0\
       data\x09\0\0\0\x01\0\0\x02\0\0\x03\0\0\0";
 
-/// The file of no clip.
+/// The rendered file of a log without clips.
 pub(crate) const NO_FILE: &[u8] =
     b"RIFF\xa2\x02\0\0WAVEbextu\x02\0\0\0\0\0\0\0\0\0\0\0\0\0\0\0\0\0\0\0\0\0\0\0\0\0\0\0\0\0\0\0\0\
       \0\0\0\0\0\0\0\0\0\0\0\0\0\0\0\0\0\0\0\0\0\0\0\0\0\0\0\0\0\0\0\0\0\0\0\0\0\0\0\0\0\0\0\0\0\0\
@@ -46,7 +46,7 @@ pub(crate) const NO_FILE: &[u8] =
       \0\0\0\0\0\0\0\0\0\0\0A=PCM,F=48000,W=24,M=mono\x0d\n\0\
       fmt \x10\0\0\0\x01\0\x01\0\x80\xbb\0\0\x802\x02\0\x03\0\x18\0data\0\0\0\0";
 
-/// The file with the marker.
+/// The rendered file with the marker.
 pub(crate) const MARKED_FILE: &[u8] =
     b"RIFF\xee\x02\0\0WAVEbextu\x02\0\0\0\0\0\0\0\0\0\0\0\0\0\0\0\0\0\0\0\0\0\0\0\0\0\0\0\0\0\0\0\0\
       \0\0\0\0\0\0\0\0\0\0\0\0\0\0\0\0\0\0\0\0\0\0\0\0\0\0\0\0\0\0\0\0\0\0\0\0\0\0\0\0\0\0\0\0\0\0\
@@ -66,7 +66,7 @@ pub(crate) const MARKED_FILE: &[u8] =
       data\x09\0\0\0\x01\0\0\x02\0\0\x03\0\0\0cue \x1c\0\0\0\x01\0\0\0\x01\0\0\0\x01\0\0\0\
       data\0\0\0\0\0\0\0\0\x01\0\0\0LIST\x16\0\0\0adtllabl\x09\0\0\0\x01\0\0\0News\0\0";
 
-/// The file with the marker's length.
+/// The rendered file with the length of the marker.
 pub(crate) const LENGTH_FILE: &[u8] =
     b"RIFF\n\x03\0\0WAVEbextu\x02\0\0\0\0\0\0\0\0\0\0\0\0\0\0\0\0\0\0\0\0\0\0\0\0\0\0\0\0\0\0\0\0\0\
       \0\0\0\0\0\0\0\0\0\0\0\0\0\0\0\0\0\0\0\0\0\0\0\0\0\0\0\0\0\0\0\0\0\0\0\0\0\0\0\0\0\0\0\0\0\0\
@@ -97,7 +97,7 @@ pub(crate) const ONE_SAMPLE: &[u8] =
     b"RIFF&\0\0\0WAVEfmt \x10\0\0\0\x01\0\x01\0\x80\xbb\0\0\0w\x01\0\x02\0\x10\0\
       data\x02\0\0\0\x01\0";
 
-/// The file of no clip with a date that no calendar has.
+/// The rendered file of a log without clips, with a date that no calendar has.
 pub(crate) const DATED_FILE: &[u8] =
     b"RIFF\xa2\x02\0\0WAVEbextu\x02\0\0\0\0\0\0\0\0\0\0\0\0\0\0\0\0\0\0\0\0\0\0\0\0\0\0\0\0\0\0\0\0\
       \0\0\0\0\0\0\0\0\0\0\0\0\0\0\0\0\0\0\0\0\0\0\0\0\0\0\0\0\0\0\0\0\0\0\0\0\0\0\0\0\0\0\0\0\0\0\

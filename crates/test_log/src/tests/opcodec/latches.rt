@@ -194,10 +194,8 @@ fn refusals(alloc: Global, text: &[u8]) -> Option<u64> {
 }
 
 // row: refused_growths
-// A failed allocation is not a failure of the reader: the latch still works, and the bytes that
-// were not read yet are still there.
-/// A refused growth is no failure of the reader: the latch stays sound, and what was not read yet
-/// is still there.
+/// A failed allocation is not a failure of the reader: the latch still works, and the bytes that
+/// were not read yet are still there.
 #[test]
 fn stays_sound_without_memory(rt: HostRuntime) -> Result<(), Fail> {
     let text = vec![in rt.alloc(); b'x'; 300_000]?;

@@ -255,10 +255,8 @@ fn text_of(alloc: Global, count: u64, record: &[u8]) -> Result<Vec<u8>, AllocErr
 }
 
 // row: damaged_logs_counts
-// A count that no log can have causes no allocation: the allocations are those for one title, for
-// one operation in its run, and for one run in the log.
-/// A count that no log can have is no reason to ask for memory: it is asked for one title, one
-/// operation in its run, and one run in the log.
+/// A count that no log can have causes no allocation: the allocations are those for one title, for
+/// one operation in its run, and for one run in the log.
 #[test]
 fn of_a_log_with_too_great_a_count(rt: HostRuntime) -> Result<(), Fail> {
     let text = text_of(rt.alloc(), u64::MAX, &text_of_numbered(rt.alloc(), 1)?)?;

@@ -1,4 +1,4 @@
-//! Recordings of 16 bits, and logs of clips of them.
+//! Recordings of 16 bits, and logs with clips of them.
 
 /// 16 bits: 1 and -1.
 pub(crate) const ONE_AND_LESS: &[u8] =
@@ -83,7 +83,7 @@ pub(crate) const TWO_CLIPS: &[u8] =
       YKeO\x88B:\xaf\x8b\xb7\x93V\x13\xf9\xe0\xa9\xa5\x8d\xa7\xf2\xd5\xab\x0c\xe0\xde\x9f\xda$H\xbe\
       \x8d\x95";
 
-/// The same, with the first placed again.
+/// The two clips, with the first one placed again.
 pub(crate) const CLIP_PLACED_AGAIN: &[u8] =
     b"RMTS\x01\0\0\0\0\0\0\0\x04\
       \0\0\0\0\0\0\0\x01\0\0\0\0\0\0\0\0\0\0\0\0\0\0\0\n\0\0\0\0\0\0\0\x01\x01\0\x05Voice\
@@ -101,7 +101,7 @@ pub(crate) const CLIP_PLACED_AGAIN: &[u8] =
       \xa3\x01\xdf$\xbceU+\xb4\x0d\x01\xfe\xc4\x8c\x05\xfaF\xab8\xdf\xef\xfb\xff\xd6\xca\xb8\xffA\
       \xf8A\x98J";
 
-/// The first, and a later clip of it past its end.
+/// The first clip, and a later clip of its recording that runs past the end.
 pub(crate) const PAST_THE_END: &[u8] =
     b"RMTS\x01\0\0\0\0\0\0\0\x03\
       \0\0\0\0\0\0\0\x01\0\0\0\0\0\0\0\0\0\0\0\0\0\0\0\n\0\0\0\0\0\0\0\x01\x01\0\x05Voice\
@@ -126,7 +126,7 @@ pub(crate) const PAIRS: &[u8] =
     b"RIFF,\0\0\0WAVEfmt \x10\0\0\0\x01\0\x02\0\x80\xbb\0\0\0\xee\x02\0\x04\0\x10\0\
       data\x08\0\0\0\x01\0\x02\0\x03\0\x04\0";
 
-/// A clip of the one.
+/// A clip of the recording on one channel.
 pub(crate) const CLIP_OF_THREE: &[u8] =
     b"RMTS\x01\0\0\0\0\0\0\0\x02\
       \0\0\0\0\0\0\0\x01\0\0\0\0\0\0\0\0\0\0\0\0\0\0\0\n\0\0\0\0\0\0\0\x01\x01\0\x05Voice\
@@ -136,7 +136,7 @@ pub(crate) const CLIP_OF_THREE: &[u8] =
       \0\0\0\x03\
       d\xe1hH\xbc\xb0VL\"\xab\x18\xe4-\x8c\"\x87&Zb7\xeb\xf3\xba\x04_\xab\x17\xc2\xc0\xe0\xbbJ";
 
-/// A clip of the other.
+/// A clip of the recording on two channels.
 pub(crate) const CLIP_OF_PAIRS: &[u8] =
     b"RMTS\x01\0\0\0\0\0\0\0\x02\
       \0\0\0\0\0\0\0\x01\0\0\0\0\0\0\0\0\0\0\0\0\0\0\0\n\0\0\0\0\0\0\0\x01\x01\0\x05Voice\
@@ -204,7 +204,8 @@ pub(crate) const FADES_LONG: &[u8] =
       \0\0\0\0\0\0\0\x02\0\0\0\0\0\0\0\0\0\0\0\0\0\0\0\n\0\0\0\0\0\0\0\x02\0\0\0\x04\0\0\0\x04\
       \xb4l4v\x95\xeb\xfb\".\xed\xa2\x07KoT\xcexPE\xb0:\xc6w{\xf3R\xcb\xc4\xdf\xa7\xa4\xba";
 
-/// A clip of the four that fades in over four frames, under a later one of two frames past its end.
+/// A clip of the four that fades in over four frames, under a later clip of two frames that runs
+/// past its end.
 pub(crate) const FADES_BELOW: &[u8] =
     b"RMTS\x02\0\0\0\0\0\0\0\x04\
       \0\0\0\0\0\0\0\x01\0\0\0\0\0\0\0\0\0\0\0\0\0\0\0\n\0\0\0\0\0\0\0\x01\x01\0\x05Voice\
