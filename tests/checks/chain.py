@@ -1,9 +1,9 @@
 """Releases a million operations that wait in a chain: tests/checks/chain.py PROGRAM [--count N]
 [--stack KIB]
 
-A log has tracks, each put after the one before, and lacks the first of them, so that all are held.
-`radio take` then takes the first one, by which all become ready one after another. The program has
-little stack: what goes down a chain by calling itself would run out of it.
+A log has tracks, each placed after the one before, and lacks the first of them, so all are held.
+`radio take` then adds the first one, and all become ready one after another. The program has a
+small stack: a recursion along the chain would overflow it.
 """
 import argparse
 import os
@@ -25,7 +25,7 @@ def run(program, words, stack):
 
 
 def is_told(told, status, last, lines):
-    """Whether a view ends with this line, after so many."""
+    """Whether a view ends with this line, after this many lines."""
     text = told.stdout.split(b"\n")
     return (
         told.returncode == status

@@ -1,11 +1,11 @@
 #!/usr/bin/env python3
-"""Tries the completions in bash, zsh and fish, and sets the manual: tests/checks/completions.py
-PROGRAM
+"""Tries the completions in bash, zsh and fish, and sets the manual:
+tests/checks/completions.py PROGRAM
 
-What is wanted are the commands, words and options that `radio --help` and `radio COMMAND --help`
-tell. bash and fish are asked for their completions, and zsh in a terminal, where they are
-installed; without them the scripts are read as texts. The page of the manual is set without a
-warning by man and groff.
+The expected commands, words and options are those of `radio --help` and `radio COMMAND --help`.
+bash and fish are asked for their completions, and zsh is asked in a terminal, if they are
+installed; otherwise the scripts are read as texts. man and groff must set the manual page without a
+warning.
 """
 import os
 import pty
@@ -31,15 +31,15 @@ def told(*words, **more):
 
 
 def section(text, name):
-    """The lines below a heading of a help, to the next empty one."""
+    """The lines below a heading of a help text, up to the next empty line."""
     if "\n%s:\n" % name not in text:
         return []
     return text.split("\n%s:\n" % name)[1].split("\n\n")[0].splitlines()
 
 
 class Command:
-    """A command as its help tells it: its words that are no options, each with the names of which
-    it is one, and its options."""
+    """A command according to its help text: its positional words, each with its possible values,
+    and its options."""
 
     def __init__(self, name, help_text):
         self.name = name
@@ -71,7 +71,7 @@ def same(wanted, found, line):
 
 
 def questions(names, commands):
-    """Lines whose last word is completed, and by what."""
+    """Lines whose last word is completed, and the expected completions."""
     yield ["radio", ""], names
     yield ["radio", "--"], ALWAYS + ["--version"]
     yield ["radio", "--why", "vi"], ["view"]
@@ -125,7 +125,7 @@ def ask_fish(script, names, commands):
 
 
 class Terminal:
-    """zsh in a terminal, which completes what is typed. What it shows has come where nothing
+    """zsh in a terminal, which completes the typed text. Its output is complete when nothing
     follows for some seconds."""
 
     def __init__(self, folder, seconds):
@@ -161,7 +161,7 @@ class Terminal:
 
 
 def type_in(terminal, names, commands):
-    """Types some lines, and looks what they are completed by."""
+    """Types some lines, and checks their completions."""
     same(names, terminal.completed("radio "), "radio ")
     same(["render"], terminal.completed("radio ren"), "radio ren")
     render = next(command for command in commands if command.name == "render")
@@ -177,7 +177,7 @@ def type_in(terminal, names, commands):
 def ask_zsh(script, names, commands, folder):
     told("zsh", "-n", script)
     shutil.copy(script, os.path.join(folder, "_radio"))
-    # on a machine that has much to do it is given more time
+    # a busy machine gets more time
     for seconds in (0.5, 2, 8):
         terminal = Terminal(folder, seconds)
         try:
@@ -190,7 +190,7 @@ def ask_zsh(script, names, commands, folder):
 
 
 def read_arms(text, commands, head, tail, form):
-    """That each option of a command stands in its part of a text."""
+    """Checks that each option of a command is in the command's part of a text."""
     global ASKED
     for command in commands:
         arm = text.split(head % command.name)[1].split(tail)[0]
@@ -206,8 +206,8 @@ def roff(text):
 
 
 def ask_page(page, program, commands):
-    """That the page has each command with its words, its options and their help, and that it is set
-    without a warning."""
+    """Checks that the page has each command with its words, its options and their help, and that it
+    is set without a warning."""
     global ASKED
     sections = re.findall(r"^\.SH (.*)$", page, re.M)
     assert sections == [

@@ -1,16 +1,21 @@
 #!/usr/bin/env python3
-"""Compares the answers to damaged files with a second reading: python3 tests/checks/damage.py
-PROGRAM [--count N] [--seed N] [--first N]
+"""Compares the answers to damaged files with a second reading:
+python3 tests/checks/damage.py PROGRAM [--count N] [--seed N] [--first N]
 
-Logs, scripts, messages and wave files are drawn at random, damaged (formats/mutations.py: bits,
-bytes, numbers, counts and sizes changed, parts cut, put in, doubled, and spliced with others; the
-digest of a log, the frames of messages and the digests that a session names are mended, mostly, so
-that what is behind them is reached) and put through each command that reads them: view, log, merge,
-timeline, diff and revert; edit; have, lack and take; info, render, check, sources, find and lay. So
-are the files of the stored cases. The second reading, of docs/formats and docs/use alone, is
-formats/answers.py. Status, standard output, the refusal's line and every file of the folder have to
-be the same, byte for byte. First the reading itself is compared with the stored cases of these
-commands. Stops at the first that differs, and prints what repeats it."""
+Logs, scripts, messages and wave files are drawn at random and damaged (formats/mutations.py): bits,
+bytes, numbers, counts and sizes are changed, parts are cut, inserted, doubled, and spliced with
+others. Mostly the digest of a log, the frames of messages and the digests in a session are then
+corrected, so that the bytes after them are reached. The files of the stored cases are damaged as
+well.
+
+Each command that reads such files gets them: view, log, merge, timeline, diff and revert; edit;
+have, lack and take; info, render, check, sources, find and lay. The second reading, written from
+docs/formats and docs/use alone, is formats/answers.py. Status, standard output, the error line and
+every file of the folder must be the same, byte for byte. First, the second reading itself is
+compared with the stored cases of these commands.
+
+Stops at the first difference, and prints how to repeat it.
+"""
 import argparse
 import collections
 import hashlib
@@ -52,14 +57,14 @@ Case = collections.namedtuple("Case", "name words files stdin status output erro
 
 
 def is_read(case):
-    """Whether the reading knows what a case is about: neither devices nor the texts of help and
+    """Whether the second reading covers a case: it knows neither devices nor the texts of help and
     `--why`."""
     is_text = case.status == 2 or b"--help" in case.words or b"--why" in case.words
     return case.command in COMMANDS and not (is_text or case.setup or case.output)
 
 
 def stored_cases():
-    """The stored cases of these commands, as far as the reading knows them."""
+    """The stored cases of these commands that the second reading covers."""
     cases = []
     for case in filter(is_read, case_text.stored_cases()):
         words = [word.decode() for word in case.words]
@@ -69,7 +74,7 @@ def stored_cases():
 
 
 def check_stored(cases):
-    """The reading answers the stored cases as they are stored."""
+    """Checks that the second reading answers the stored cases as they are stored."""
     for case in cases:
         told = answer(case.words, case.files, case.stdin)
         assert (told.status, told.output, told.errors, told.made) == case[4:], (
@@ -93,7 +98,7 @@ def log_of(draw, ops):
 
 
 def read_log(draw, cases):
-    """A damaged log, alone or beside others, shown, listed and merged."""
+    """A damaged log, alone or with others, that is shown, listed and merged."""
     ops = drawn(draw)
     files = {"a": log_of(draw, ops)}
     if draw.random() < 0.4:
@@ -142,7 +147,7 @@ def read_script(draw, cases):
 
 
 def timed(draw, script):
-    """A script in which times and decibels, some of them damaged, stand for some numbers and
+    """A script in which times and decibels, some of them damaged, replace some numbers and
     fractions."""
 
     def word(found):
@@ -165,7 +170,7 @@ def timed(draw, script):
 
 
 def read_message(draw, cases):
-    """Damaged operations that are taken, or a damaged summary that is answered."""
+    """Damaged operations that are applied, or a damaged summary that is answered."""
     ops = drawn(draw)
     some, more = (
         [op for op in ops if draw.random() < 0.5],
@@ -197,7 +202,7 @@ def read_message(draw, cases):
 
 
 def damaged_ops(draw, sent):
-    """Operations of which one is damaged, now and then, with how many there are."""
+    """Operations, one of them damaged now and then, and their number."""
     if draw.random() < 0.5:
         return sent
     return [(None, text) for text in damaged_records(draw, [text for _, text in sent])]
@@ -251,7 +256,7 @@ def read_session(draw, cases):
 
 
 def drawing(draw, files):
-    """The session in some columns or as a picture, with recordings or with none, its times at some
+    """The session in some columns or as a picture, with or without recordings, with times at some
     rate."""
     sources = [
         word
@@ -279,7 +284,7 @@ def drawing(draw, files):
 
 
 def finding(draw, waves, files):
-    """What plays a recording, or has a title that sessions have."""
+    """A search for clips of a recording, or for a title that sessions have."""
     name = draw.choice(list(waves))
     if draw.random() < 0.3:
         return (["find", *draw.choice([[], ["--one"]]), "--wave", "log", "clip", name], files)
@@ -298,7 +303,7 @@ def finding(draw, waves, files):
 
 
 def laying(draw, waves, rate):
-    """Some of the recordings on a track, one behind another."""
+    """Some of the recordings on a track, one after another."""
     names = draw.choices(list(waves), k=draw.randint(1, 3))
     options = draw.choice(
         [
@@ -325,7 +330,7 @@ def damaged_file(draw, data):
 
 
 def read_case(draw, cases):
-    """A stored case of which a file is damaged, or what comes to standard input."""
+    """A stored case with a damaged file or a damaged standard input."""
     case = draw.choice(cases)
     files, stdin = dict(case.files), case.stdin
     name = draw.choice(sorted(files) or [None])
@@ -362,7 +367,7 @@ class Desk:
                 file.write(data)
 
     def run(self, words, files, stdin):
-        """Status, output, errors and the files that lie there afterwards."""
+        """Status, output, errors and the files that are there afterwards."""
         self.lay(files)
         try:
             told = subprocess.run(
@@ -397,8 +402,8 @@ def tell_difference(words, files, stdin, wanted, told):
 
 
 def compare(desk, tally, words, files, stdin=b""):
-    """Whether both say the same. A file that is too long to be worked out here is counted, and not
-    made."""
+    """Whether both give the same. A file that would take too long to work out here is counted, and
+    not computed."""
     try:
         known = answer(words, files, stdin)
     except TooMuch:
@@ -414,7 +419,7 @@ def compare(desk, tally, words, files, stdin=b""):
 
 
 def summary(tally):
-    """How often each command was refused by which number, or not."""
+    """How often each command failed with which number, or succeeded."""
     commands = {}
     for key, count in tally.items():
         if key != "left out":

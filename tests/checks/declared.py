@@ -14,7 +14,7 @@ TOP = os.path.dirname(os.path.dirname(os.path.dirname(os.path.abspath(__file__))
 sys.path.insert(0, os.path.join(TOP, "tests"))
 from pages.commands import commands  # noqa: E402
 
-# a file of cases that are about the program as a whole
+# a file of cases about the program as a whole
 WITHOUT_COMMAND = {"radio"}
 
 
@@ -24,7 +24,7 @@ def text_of(path):
 
 
 def once(what, found, wanted):
-    """The faults of a list that has to have each command exactly once."""
+    """The faults of a list that must have each command exactly once."""
     faults = ["%s: %s is missing" % (what, name) for name in sorted(wanted - set(found))]
     faults += ["%s: %s is no command" % (what, name) for name in sorted(set(found) - wanted)]
     return faults + [

@@ -1,20 +1,23 @@
 #!/usr/bin/env python3
-"""Makes system calls and memory fail under every command: python3 tests/checks/faults.py PROGRAM
-[--full] [--trials N] [--seed N] [--tell]
+"""Makes system calls and memory fail under every command:
+python3 tests/checks/faults.py PROGRAM [--full] [--trials N] [--seed N] [--tell]
 
-Each call of the program for files, memory and sockets is made to fail in turn with several errors,
-to be interrupted, to read or write less than it was asked for, or nothing; the process is killed
-before it and after it; the calls for memory are refused from each one on; the program's own
-requests for memory are refused, one and all from one on; it gets address space from nothing to
-enough; and its standard input, output and errors are closed. What is right without a failure is
-told by a second reading (scenes.py). With one the program has to do the same, or to refuse by a
-number that fits the call, with status 1, its one line and no file made, changed or left. Killed it
-leaves OUT as it was or whole and the inputs as they were, and is right when it runs again; where
-OUT.part is left that is refused (37) until it is gone.
+Each call of the program for files, memory and sockets fails in turn with several errors, is
+interrupted, or reads or writes less than requested, or nothing. The process is killed before and
+after the call. Calls for memory fail from each one on. The program's own requests for memory fail,
+a single one or all from one on. It gets address space from none to enough. Its standard input,
+output and errors are closed.
 
-By ptrace (tracer.c) and by LD_PRELOAD (refuser.c), which it builds with cc in a folder of its own;
-where that cannot be had it says what it skipped. By default so many trials as take about a minute,
-evenly from all of them; --full makes all."""
+The second reading (scenes.py) defines the right result without a failure. With a failure, the
+program must give the same result, or fail with a number that fits the call, with status 1, its
+single line, and no file made, changed or left. A killed program leaves OUT unchanged or whole and
+its inputs unchanged, and succeeds when it runs again. If OUT.part is left, the next run fails (37)
+until it is removed.
+
+It uses ptrace (tracer.c) and LD_PRELOAD (refuser.c), which it builds with cc in a temporary folder.
+If that is impossible, it reports what it skipped. By default it makes as many trials as take about
+a minute, evenly chosen from all of them; --full makes all.
+"""
 import argparse
 import collections
 import errno
@@ -32,12 +35,12 @@ sys.path.insert(0, os.path.dirname(HERE))
 from checks.scenes import Stage, Told, endless_scenes, scenes
 
 MEMORY, WRITE, READ, NET = 0, 37, 45, 46
-# the address space that an input without end has to fill
+# the address space that an endless input has to fill
 ROOM = 1 << 26
 PAGE = 4096
 CLOSING = ("<&-", ">&-", "2>&-")
 FOR_MEMORY = {"mmap", "munmap", "mremap", "mprotect", "madvise", "brk"}
-# what a process does once for itself, not for files, memory or sockets
+# calls that a process makes once for itself, not for files, memory or sockets
 OF_PROCESSES = {
     "exit_group", "exit", "rt_sigaction", "rt_sigprocmask", "set_tid_address", "set_robust_list",
     "rseq", "arch_prctl", "prlimit64", "futex", "execve",
@@ -77,7 +80,7 @@ def base(call):
 
 
 def numbers_of(call, scene):
-    """By which numbers a failure of this call may be told; by none where nothing hangs on it."""
+    """The error numbers that fit a failure of this call; none if nothing depends on it."""
     if call.name in ("close", "shutdown", "unlink", "unlinkat"):
         return set()
     if call.name in FOR_MEMORY:
@@ -92,7 +95,7 @@ def numbers_of(call, scene):
         or call.name in ("dup", "fcntl")
         and not is_socket(call)
     ):
-        # how OUT and the log that was read are told apart, and a second handle of it
+        # how OUT and the log that was read are distinguished, and a second handle of it
         return {WRITE}
     if is_socket(call) or call.name in ON_SOCKETS:
         return (
@@ -110,7 +113,7 @@ def numbers_of(call, scene):
 
 
 def before_the_end(scene, call, calls):
-    """What is right where a read says that this is the end of what it reads."""
+    """The right result if a read reports the end of its input."""
     consumed = sum(
         max(0, other.answer)
         for other in calls
@@ -127,7 +130,7 @@ def before_the_end(scene, call, calls):
 
 
 class Bench:
-    """The program under the tracer, and what became of the trials."""
+    """The program under the tracer, and the results of the trials."""
 
     def __init__(self, stage, tracer, folder):
         self.stage, self.tracer, self.report = stage, tracer, os.path.join(folder, "report")
@@ -138,7 +141,7 @@ class Bench:
         return self.stage.run(scene, [self.tracer, self.report, how, str(index), str(value)])
 
     def list(self, scene):
-        """The calls of the scene; without a failure it has to be right."""
+        """The calls of the scene, which must succeed without a failure."""
         told = self.traced(scene, "list")
         assert told.is_right(scene), "%s without a failure: %s" % (scene.name, told)
         self.calls[scene.name] = [
@@ -168,7 +171,7 @@ class Bench:
         self.tally["%s of %s %s" % (words, kind, trial.call.name), outcome] += 1
 
     def check(self, trial):
-        """One trial, where the call is still the one that was listed: how a peer's bytes arrive can
+        """One trial, if the call is still the one that was listed: the timing of a peer's bytes can
         move it."""
         told = self.traced(trial.scene, trial.how, trial.index, trial.value)
         hit = calls_in(self.report)
@@ -200,7 +203,8 @@ class Bench:
             self.fault(trial, told, "not as a file that ends there (%s)" % right.number)
 
     def check_failed(self, trial, told):
-        """It has done what it does without a failure, or refused by a number that fits."""
+        """Checks that it gives the result of a run without a failure, or fails with a number that
+        fits."""
         scene, call = trial.scene, trial.call
         self.note(trial, refusal(told) if told.status else None)
         if told.is_right(scene):
@@ -221,7 +225,8 @@ class Bench:
             self.fault(trial, told, "refused, and the output is %r" % told.output[:80])
 
     def check_killed(self, trial, told):
-        """Killed it leaves OUT as it was or whole, and is right when it runs again."""
+        """Checks that a killed program leaves OUT unchanged or whole, and succeeds when it runs
+        again."""
         self.note(trial, "killed")
         if told.status != -9:
             return self.fault(trial, told, "not killed")
@@ -231,8 +236,7 @@ class Bench:
         self.check_again(trial, files, told.files, parts)
 
     def check_left(self, scene, told, context):
-        """What a process leaves that ended in between: the files without a part, and the names of
-        parts."""
+        """What an ended process leaves: the files without parts, and the names of parts."""
         files = dict(told.files)
         parts = [name for name in files if name.endswith(".part") and name not in scene.files]
         for name in parts:
@@ -266,7 +270,7 @@ class Bench:
 
 
 def refusal(told):
-    """The number of the one line on standard error, or that text."""
+    """The number in the single line on standard error, or that text."""
     words = told.errors.split()
     if (
         told.errors.startswith(b"radio: fault ")
@@ -287,7 +291,7 @@ def errors_for(call):
 
 
 def trials_of(scene, calls):
-    """What can be tried at each call of a scene."""
+    """The possible trials at each call of a scene."""
     trials = []
     for call in calls:
         trials += [Trial(scene, "fail", call.index, error, call) for error in errors_for(call)]
@@ -304,7 +308,7 @@ def trials_of(scene, calls):
 
 
 def chosen(draw, trials, count):
-    """So many of them, one of each stretch of the same length, or all."""
+    """This many trials, one from each of as many equal stretches; or all of them."""
     if count is None or count >= len(trials):
         return trials
     return [
@@ -314,7 +318,7 @@ def chosen(draw, trials, count):
 
 
 def built(folder, source, out, *words):
-    """The path of what a compiler makes of this source, if there is one that does."""
+    """The path of the compiled source, if a compiler can compile it."""
     compiler = next((name for name in ("cc", "gcc", "clang") if shutil.which(name)), None)
     path = os.path.join(folder, out)
     if (
@@ -328,7 +332,7 @@ def built(folder, source, out, *words):
 
 
 def check_memory(scene, told, context, wrong):
-    """It has done what it does with enough memory, or refused for want of it."""
+    """Checks that it succeeds as with enough memory, or fails because of memory."""
     allowed = {MEMORY} | ({scene.right.number} - {None})
     if (
         told.is_right(scene)
@@ -342,7 +346,7 @@ def check_memory(scene, told, context, wrong):
 
 
 def refused_requests(stage, preloaded, scene, folder):
-    """How many requests for memory the program makes in a scene."""
+    """The number of requests for memory that the program makes in a scene."""
     count = os.path.join(folder, "count")
     told = stage.run(scene, more={"LD_PRELOAD": preloaded, "REFUSE_COUNT": count})
     assert told.is_right(scene), "%s with counted requests: %s" % (scene.name, told)
@@ -365,8 +369,8 @@ def refuse_requests(stage, preloaded, scene, number, goes_on, wrong):
 
 
 def limit_room(bench, scene, room):
-    """One run with so much address space: whether the program began at all, and whether it was
-    right. Before its own first call it is the loader that has to do without."""
+    """One run with this much address space: whether the program began at all, and whether its
+    result was right. Before its own first call, the loader lacks the memory."""
     told = bench.traced(scene, "limit", 0, room)
     bench.limited += 1
     with open(bench.report) as file:
@@ -412,7 +416,7 @@ def try_calls(bench, options):
 
 
 def try_requests(bench, preloaded, folder, options):
-    """Requests for memory that are refused."""
+    """Requests for memory that fail."""
     all_of = []
     for scene in scenes(3, 8):
         count = refused_requests(bench.stage, preloaded, scene, folder)
@@ -432,7 +436,7 @@ def try_requests(bench, preloaded, folder, options):
 
 
 def try_limits(bench, options):
-    """Address space from what the program begins with to enough."""
+    """Address space from the least with which the program begins to enough."""
     steps = None if options.full else 24
     for scene in scenes(3, 8):
         first = least_room(bench, scene, ROOM // PAGE, 0)
@@ -452,8 +456,8 @@ def try_limits(bench, options):
 
 
 def try_closed(bench):
-    """Standard input, output and errors closed, so that files and sockets get their numbers: what
-    would be told there goes nowhere, and into no file."""
+    """Standard input, output and errors are closed, so that files and sockets get their numbers:
+    what the program would print goes nowhere, and into no file."""
     count = 0
     for scene in scenes(3, 8):
         for closed in [

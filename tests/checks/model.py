@@ -3,11 +3,12 @@
 tests/checks/model.py PROGRAM [--sets N] [--seed N]
 
 The model (tests/formats/sessions.py) is written from docs/formats and docs/use alone. The sets are
-drawn at random: a few replicas whose numbers may have gaps, names of operations that are there,
-that are not, that have another clock or do not fit the role. Each set is handed to the program as
-one log, or as several that share operations, and merging these has to give the one log of the set.
-Stops at the first set of which the two tell different texts, of the session or of the
-operations."""
+drawn at random: a few replicas whose numbers may have gaps, and operations that name existing
+items, missing ones, and ones with another clock or of the wrong kind. Each set is given to the
+program as one log, or as several logs with common operations; merging these must give the log of
+the set. Stops at the first set for which the program and the model differ, in the session or in the
+operations.
+"""
 import argparse
 import json
 import os
@@ -47,7 +48,7 @@ def picture_text(ops):
 
 
 def objects_of(text):
-    """The lines of a text as JSON, which python's own reader takes for what the lines say."""
+    """The lines of a text as JSON objects, which Python's parser must read as the same values."""
     told = json_text(text)
     for line, taken in zip(text.split("\n"), told.split("\n")[:-1], strict=False):
         assert says(json.loads(taken), line), (line, taken)
@@ -55,8 +56,8 @@ def objects_of(text):
 
 
 def says(members, line):
-    """Whether these members say what the line says, word by word: each name that is a word of the
-    text stands in it before its value."""
+    """Whether these members say the same as the line, word by word: each name that is a word of the
+    text comes before its value."""
     values = [
         " ".join(map(str, value))
         if isinstance(value, list)
@@ -93,16 +94,15 @@ KINDS = (
 
 
 class History:
-    """Operations that could all be in one log, drawn one after another; a name's clock is smaller
-    than the operation's."""
+    """Operations that could all be in one log, drawn one after another; the clock of a named item
+    is smaller than the operation's."""
 
     def __init__(self, draw):
         self.draw, self.clock, self.seqs, self.ops = draw, 0, {}, []
         self.replicas = draw.sample([0, 1, 10, 11, 2**128 - 1], draw.randint(1, 4))
 
     def name(self, kinds):
-        """The stamp of an operation that fits, and now and then of one that does not or is not
-        there."""
+        """The stamp of a suitable operation, and now and then of an unsuitable or missing one."""
         draw = self.draw
         odd = draw.random()
         some = self.older if odd < 0.02 else [op for op in self.older if op.kind in kinds]
@@ -119,7 +119,7 @@ class History:
         return self.name(FITS["Place"]) if self.draw.random() < 0.7 else None
 
     def tags(self, item):
-        """Most of the tags that the item has, and now and then what is none."""
+        """Most of the item's tags, and now and then a stamp that is none."""
         known = [
             op.own
             for op in self.older
@@ -163,7 +163,7 @@ class History:
         }[kind]()
 
     def add(self):
-        """One more operation, where what is drawn can be one."""
+        """Adds an operation, if the drawn parts make a valid one."""
         draw = self.draw
         self.clock = max(self.clock + draw.choice([0, 1, 1, 1, 3]), 1)
         replica = draw.choice(self.replicas)
@@ -180,7 +180,7 @@ class History:
 
 
 def drawn(draw):
-    """A set of operations, of which some may be missing that others name."""
+    """A set of operations, where some that others name may be missing."""
     history = History(draw)
     for _ in range(draw.choice([3, 10, 30, 60])):
         history.add()
@@ -188,7 +188,7 @@ def drawn(draw):
 
 
 def files_of(draw, ops, folder):
-    """The set in one log, or in four that share operations."""
+    """The set in one log, or in four with common operations."""
     parts = (
         [ops]
         if draw.random() < 0.5
@@ -203,7 +203,7 @@ def files_of(draw, ops, folder):
 
 
 def merges(program, files, wanted, out):
-    """Whether `merge` of these files tells nothing and writes these bytes."""
+    """Whether `merge` of these files prints nothing and writes these bytes."""
     told = subprocess.run([program, "merge", out] + files, capture_output=True)
     if told.stdout or told.stderr or told.returncode != 0:
         return False
@@ -215,8 +215,8 @@ READS_ALLOWED = 16_777_216
 
 
 def reads_a_large_log(program, folder):
-    """Whether a log of more bytes than a latch allows reads is read, since each read may give many
-    bytes: it is shown, and merged into itself."""
+    """Checks that a log with more bytes than a latch allows reads can be read, as each read may
+    return many bytes: it is shown, and merged into itself."""
     ops = [logs.add_marker((number, 1, number), number, "t" * 255) for number in range(1, 60_001)]
     wanted = logs.log(ops)
     assert len(wanted) > READS_ALLOWED

@@ -1,14 +1,15 @@
 #!/usr/bin/env python3
-"""Compares what `radio` says of large wave files with a second reading: python3
-tests/checks/outlines.py PROGRAM [--files N] [--seed S]
+"""Compares what `radio` says of large wave files with a second reading:
+python3 tests/checks/outlines.py PROGRAM [--files N] [--seed S]
 
-`radio info`, `sources`, `lay` and `find --wave` keep no samples of files of more than a MiB. The
-second reading, of the whole files, is tests/formats/read_waves.py. The files are drawn: where the
-samples begin, at, before and behind the end of the first MiB; with an odd number of bytes and
-without their pad byte; a second chunk `data`; lists, cue points and extensions before and behind
-the samples; sizes that are too small, too great and unfinished; cut off at places round the end of
-the samples, or anywhere; bytes behind the RIFF chunk; and as a file or as a pipe, which gives fewer
-bytes than are asked for. At last a file of 64 MiB is read in 48 MiB of address space.
+`radio info`, `sources`, `lay` and `find --wave` do not keep the samples of files over a MiB. The
+second reading, of the whole files, is tests/formats/read_waves.py. The files are drawn at random:
+the samples begin before, at and after the end of the first MiB; there may be an odd number of bytes
+without the pad byte, a second `data` chunk, and lists, cue points and extensions before and after
+the samples; sizes may be too small, too large or unfinished; files are cut near the end of the
+samples or anywhere; there may be bytes after the RIFF chunk; and the input is a file or a pipe,
+which returns fewer bytes than requested. Finally, a file of 64 MiB is read in 48 MiB of address
+space.
 """
 import argparse
 import os
@@ -25,10 +26,10 @@ from formats.refused import Refused
 from formats.waves import adtl, bext, chunk, cue, data, extensible, fmt, labl, ltxt, point, riff
 
 MIB = 2**20
-# the refusal of a recording of no frame by `lay`
+# the error of `lay` for a recording without frames
 LENGTH = 6
 EDITOR = "00000000-0000-0000-0000-00000000000a"
-# the clip of a script of two lines, the second of which adds it
+# the clip in a script of two lines, the second of which adds it
 CLIP = "2.2." + EDITOR
 
 
@@ -40,7 +41,7 @@ def formats(rng):
 
 
 def beside(rng):
-    """Some of the chunks that may stand before or behind the samples."""
+    """Some of the chunks that may come before or after the samples."""
     kinds = [
         lambda: chunk(b"bext", bext(b"News at nine", history=b"A=PCM\r\n" * rng.randrange(4))),
         lambda: cue(*[point(name, rng.randrange(2**20)) for name in range(1, rng.randrange(2, 5))]),
@@ -55,7 +56,7 @@ def beside(rng):
 
 
 def drawn(rng):
-    """A file, of which most are wave files."""
+    """A file; most of them are wave files."""
     before = beside(rng)
     if rng.random() < 0.93:
         before.insert(rng.randrange(len(before) + 1), formats(rng))
@@ -98,8 +99,8 @@ def drawn(rng):
 
 
 def wanted(file, name):
-    """What `info`, `lay` and `sources` answer: a text, or the number of a refusal. Those of
-    `sources` are of a log of no operation, and of one that plays what was laid; where nothing is,
+    """The results of `info`, `lay` and `sources`: a text, or an error number. Those of `sources`
+    are for an empty log, and for a log that plays the recording that was laid; if none was laid,
     there is no such log."""
     try:
         wave = Wave(file)

@@ -1,14 +1,15 @@
 #!/usr/bin/env python3
-"""Converses with peers that damage or never end what they send: python3 tests/checks/peers.py
-PROGRAM [--count N] [--seed N]
+"""Converses with peers that damage or never end what they send:
+python3 tests/checks/peers.py PROGRAM [--count N] [--seed N]
 
-A socket on loopback plays the other end of `radio serve` and of `radio meet`. What it sends is a
-short honest stream cut at each place, the same with the byte at each place changed, and N streams
-drawn at random and damaged (formats/mutations.py), in one piece or in many. What the program comes
-to is compared with a second reading of the conversation (formats/read_messages.py): status, the
-refusal's number, what it sent, and the log that it wrote, or that OUT is as it was. A byte behind
-the peer's Bye may be met or not, which hangs on how it is cut. Then peers that send for ever, that
-say nothing and hang up, and that break the connection."""
+A loopback socket plays the peer of `radio serve` and of `radio meet`. It sends a short honest
+stream that is cut at each position, the stream with the byte at each position changed, and N
+streams drawn at random and damaged (formats/mutations.py), in one piece or in many. The outcome is
+compared with a second reading of the conversation (formats/read_messages.py): the status, the error
+number, the sent bytes, and the log that was written, or that OUT is unchanged. A byte after the
+peer's Bye may be seen or not, which depends on the pieces. Then it tries peers that send for ever,
+that say nothing and hang up, and that reset the connection.
+"""
 import argparse
 import collections
 import os
@@ -72,7 +73,7 @@ class Desk:
         )
 
     def meeting(self, calls, out):
-        """The program, and the line to it."""
+        """The program, and the connection to it."""
         if calls:
             child = self.start("meet", self.listener.getsockname()[1], out)
             return child, self.listener.accept()[0]
@@ -82,7 +83,7 @@ class Desk:
 
 
 def called(child, port):
-    """The line to one who is about to listen there."""
+    """The connection to a program that is about to listen there."""
     for _ in range(5000):
         try:
             line = socket.create_connection(("127.0.0.1", port))
@@ -97,7 +98,7 @@ def called(child, port):
 
 
 def send(line, pieces):
-    """Sends, and tells that no more comes; the other end may hang up at any moment."""
+    """Sends the pieces and the end of the stream; the other end may hang up at any moment."""
     line.setsockopt(socket.IPPROTO_TCP, socket.TCP_NODELAY, 1)
     try:
         for piece in pieces:
@@ -108,7 +109,7 @@ def send(line, pieces):
 
 
 def listen(line):
-    """All that the other end sends, as far as it comes."""
+    """All bytes from the other end, as far as they arrive."""
     heard = b""
     try:
         while piece := line.recv(65536):
@@ -130,7 +131,7 @@ def cut(draw, stream):
 
 
 def finished(child):
-    """The refusal's number, or none; nothing else is told."""
+    """The error number, or None; nothing else is printed."""
     try:
         output, errors = child.communicate(timeout=PATIENCE)
     finally:
@@ -143,7 +144,7 @@ def finished(child):
 
 
 def check(desk, calls, ops, pieces, out="out"):
-    """One conversation, compared with the reading; the number that it ended with."""
+    """Compares one conversation with the second reading; returns the number with which it ended."""
     log = write_log(ops)
     end = End(ops, calls).hear(b"".join(pieces))
     desk.lay(log)
@@ -172,7 +173,7 @@ def read_back(ops):
 
 
 def honest(own, theirs):
-    """What an honest other end with these operations sends."""
+    """The bytes that an honest peer with these operations sends."""
     mine = {op[0] for op in own}
     return (
         exchange.summary(theirs)
@@ -182,7 +183,7 @@ def honest(own, theirs):
 
 
 def check_each_place(desk, draw):
-    """A short honest stream cut at each place, and with the byte at each place changed."""
+    """A short honest stream cut at each position, and with the byte at each position changed."""
     own = [add_marker((1, A, 1), 480, "News"), retitle((3, A, 2), (1, A, 1), "Late")]
     theirs = own[:1] + [add_marker((2, B, 1), 9, "B"), retitle((4, B, 2), (2, B, 1), "C")]
     stream, count = honest(own, theirs), 0
@@ -229,7 +230,7 @@ def check_drawn(desk, draw):
 
 
 def peak(child):
-    """The most memory that a process had so far, where it is there."""
+    """The peak memory of a process so far, if it is known."""
     try:
         with open("/proc/%d/status" % child.pid) as file:
             return next(
@@ -244,8 +245,8 @@ def one_marker():
 
 
 def kept(desk, calls, talk):
-    """A conversation over the log itself that comes to nothing: what `talk` tells of it, and the
-    number; the log is as it was."""
+    """A conversation that fails with OUT = LOG: the result of `talk`, and the error number; the log
+    is unchanged."""
     desk.lay(write_log(one_marker()))
     before = desk.files()
     child, line = desk.meeting(calls, "log")
@@ -257,8 +258,8 @@ def kept(desk, calls, talk):
 
 
 def for_ever(first, again):
-    """Sends `again` after `first` until nobody reads it or much was sent; the memory that the
-    program took by then."""
+    """Sends `first` and then `again` until nobody reads it or much was sent; returns the program's
+    memory at that time."""
 
     def talk(child, line):
         piece = again * (65536 // len(again) + 1)
@@ -283,7 +284,7 @@ def silent(child, line):
 
 
 def breaking(front):
-    """Sends this, and breaks the connection with no word of farewell."""
+    """Sends this, and resets the connection."""
 
     def talk(child, line):
         line.sendall(front)
@@ -293,8 +294,8 @@ def breaking(front):
 
 
 def check_hostile(desk):
-    """Peers that never end, say nothing, or break off: how many, and the most memory that one of
-    them took."""
+    """Peers that never end, say nothing, or reset the connection: their number, and the peak
+    memory."""
     other = [add_marker((number, B, number), 9, "B" * 200) for number in range(1, 201)]
     have, one = exchange.summary(other), exchange.ops(other)
     never = struct.pack(">I", exchange.LONGEST) + b"\2" + struct.pack(">I", 2**32 - 1)

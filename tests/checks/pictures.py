@@ -1,13 +1,13 @@
 #!/usr/bin/env python3
-"""Compares the pictures of `radio timeline --svg` with a second reading: tests/checks/pictures.py
-PROGRAM
+"""Compares the pictures of `radio timeline --svg` with a second reading:
+tests/checks/pictures.py PROGRAM
 
-Of some sessions, with fades, muted clips, markers that are no points and odd titles, and at several
-rates: that the picture is well-formed XML, that each thing is there as often as the session has it,
-with its title, and that each lies in the page and each clip in the row of its track. One has
-recordings, of which each width, one and several channels, clips past their ends, silence and one
-that is not at hand: the line of each column is that of a second reading. Where a Chromium is
-installed it draws them too, and tells where on the page each text and each shape is seen.
+Draws sessions with fades, muted clips, markers with lengths and unusual titles, at several rates.
+The picture must be well-formed XML and have each item as often as the session has it, with its
+title; each item must be inside the page, and each clip inside the row of its track. One session has
+recordings of each width, of one and several channels, clips past their ends, silence, and a missing
+recording: the peak of each column must be that of the second reading. If a Chromium is installed,
+it draws the pictures, and the positions of all texts and shapes on the page are checked.
 """
 import hashlib
 import html
@@ -107,7 +107,7 @@ def one_marker():
 
 
 def sound(bits, channels, frames, loud):
-    """A wave file in which the channel C of the frame F is as loud as `loud(F, C)` says, from -1 to
+    """A wave file in which the channel C of the frame F has the level `loud(F, C)`, from -1 to
     1."""
     most = 2 ** (bits - 1)
     samples = [
@@ -124,8 +124,8 @@ def sound(bits, channels, frames, loud):
 
 
 def recordings():
-    """Swells on both channels in turn, a peak on the last channel alone, few frames of which each
-    is wide, the least sample, silence, and one that is not given."""
+    """Swells on both channels in turn, a peak on the last channel alone, few frames that are wide
+    columns, the least sample, silence, and a recording that is not given."""
     return [
         sound(
             16,
@@ -148,8 +148,8 @@ def recordings():
 
 
 def with_recordings(frames):
-    """Clips in so many frames, 7 or more, from offsets on, past the ends of their recordings,
-    muted, narrow, and over one another."""
+    """Clips in this many frames, 7 or more: from various offsets, past the ends of their
+    recordings, muted, narrow, and over one another."""
     made, (files, absent) = Making(), recordings()
     voice, other = made.track("Voice"), made.track("Other", mute=1)
     for number, file in enumerate(files):
@@ -201,7 +201,7 @@ def numbers(element, *names):
 
 
 def within(inner, outer, what):
-    """That a box of left, top, right and bottom lies in another."""
+    """Checks that a box, as left, top, right and bottom, is inside another one."""
     global LOOKED_AT
     LOOKED_AT += 1
     assert (
@@ -213,8 +213,8 @@ def within(inner, outer, what):
 
 
 def boxes(element, x=0, y=0):
-    """Where each box below an element is, in units of the page, and its row. Every box of its own
-    hides what is outside."""
+    """The position of each box below an element, in units of the page, and its row. Each nested
+    picture clips its content."""
     move = re.fullmatch(r"translate\((\d+) (\d+)\)", element.get("transform", "translate(0 0)"))
     x, y = x + int(move[1]), y + int(move[2])
     for child in element:
@@ -231,8 +231,8 @@ def boxes(element, x=0, y=0):
 
 
 def look_at_peaks(element, clip, found):
-    """That the peaks of a clip stand behind its ramps and before its label, each in a unit of the
-    box and around its middle, and that those without a recording have none."""
+    """Checks that the peaks of a clip come after its ramps and before its label, each in a unit of
+    the box and around its middle, and that clips without a recording have none."""
     width, kinds = int(element.get("width")), [child.get("class") or child.tag for child in element]
     paths = element.findall(SVG + "path[@class='peaks']")
     assert (
@@ -251,7 +251,7 @@ def look_at_peaks(element, clip, found):
 
 
 def look_at(text, session, files=()):
-    """Looks at a picture by its elements, and tells how many boxes have peaks."""
+    """Checks a picture by its elements, and returns the number of boxes with peaks."""
     found, peaks = {hashlib.sha256(file).digest() for file in files}, 0
     root = ElementTree.fromstring(text)
     page = tuple(map(int, root.get("viewBox").split()))
@@ -304,8 +304,8 @@ def look_at(text, session, files=()):
     return peaks
 
 
-# Tells of each text and shape what is seen of it: the part of its box that is in each box that
-# hides what is outside.
+# Reports the visible part of each text and shape: the part of its box that is inside all boxes that
+# clip it.
 SCRIPT = """<script><![CDATA[
 const seen = [];
 for (const element of document.querySelectorAll("text, rect, path")) {
@@ -332,7 +332,7 @@ document.documentElement.setAttribute("data-seen", JSON.stringify(seen));
 
 
 def look_by(browser, folder, text):
-    """Has a browser draw a picture, and looks where things are seen."""
+    """Lets a browser draw a picture, and checks where the elements are visible."""
     name = os.path.join(folder, "picture.svg")
     with open(name, "w") as file:
         file.write(text.removesuffix("</svg>\n") + SCRIPT)
@@ -351,8 +351,8 @@ def look_by(browser, folder, text):
     page = (0, 0, *map(int, re.search(r'viewBox="0 0 (\d+) (\d+)"', text).groups()))
     for one in json.loads(html.unescape(found[1])):
         left, top, right, bottom = one["part"]
-        # lines are as wide as a unit, half of it on either side; a clip can be too narrow for its
-        # text
+        # lines have the width of one unit, half of it on either side; a clip can be too narrow for
+        # its text
         within((left + 0.5, top, right - 0.5, bottom), page, one)
         assert one["in_clip"] or not one["drawn"] or (left < right and top < bottom), (
             "nothing is seen", one

@@ -46,7 +46,7 @@ BUDGETS = {
     "docs/build/adding-a-command.md": 600,
     "docs/build/adding-an-operation.md": 600,
 }
-# pages that may come; their words are added to TOTAL
+# pages that may be added; their words are added to TOTAL
 LATER = {
     "docs/use/archive.md": 500,
     "docs/use/desk.md": 900,
@@ -91,7 +91,7 @@ def pages():
 
 
 def counted(text):
-    """What of a page counts for its budget."""
+    """The words of a page that count for its budget."""
     text = GENERATED.sub(
         lambda part: "" if part.group(1).split()[0] in UNCOUNTED else part.group(2), text
     )
@@ -108,7 +108,7 @@ def cell_faults(text):
 
 
 def list_faults(text):
-    """The lines inside a paragraph that begin as an item of a list does."""
+    """The lines inside a paragraph that begin like an item of a list."""
     before = ""
     for line in FENCE.sub("", GENERATED.sub("", text)).splitlines():
         begins = re.match(r"\s*(?:[-+*]|\d+\.) ", line)
@@ -159,8 +159,7 @@ def block_faults(text):
 
 
 def plain(text):
-    """The words that somebody wrote: paragraphs, items, cells and headings apart, code as one
-    word."""
+    """The prose: paragraphs, items, cells and headings as separate parts, with code as one word."""
     text = FENCE.sub("\n\n", GENERATED.sub("\n\n", text))
     text = re.sub(r"`[^`]*`", "CODE", text)
     text = re.sub(r"!?\[([^]]*)\]\([^)]*\)", r"\1", text)
@@ -211,7 +210,7 @@ def faults_of_all(texts):
 
 
 def turns_of(texts):
-    """The long sentences and each of the turns, with where they are."""
+    """The long sentences and each of the turns, with their places."""
     found = {"sentences of %d words or more" % LONG: []}
     for page, text in texts.items():
         found["sentences of %d words or more" % LONG] += [

@@ -2,12 +2,12 @@
 """Compares two builds of the program: tests/checks/quick_build.py PROGRAM OTHER [--programmes N]
 [--seed N]
 
-Draws programmes at random, of recordings of both widths and of one or two channels, with gains,
-mutes, fades and clips over clips, and renders each with both builds, in each number of bits and of
-channels: the files have to be equal, byte for byte, as have what `radio info` tells of each
-recording and what `radio view` prints of the log. OTHER is the build for a processor with AVX2 (see
-README); where this processor has none, such a program ends with status 127 before it does anything,
-and this says so.
+Draws programmes at random, with recordings of all widths and of one or two channels, gains, mutes,
+fades and overlapping clips. Both builds render each of them, in each number of bits and of
+channels. The files must be equal, byte for byte, and so must the output of `radio info` for each
+recording and of `radio view` for the log. OTHER is the build for a processor with AVX2 (see
+README). On a processor without AVX2, that program ends with status 127 before it does anything, and
+this check reports it.
 """
 import argparse
 import hashlib
@@ -30,7 +30,7 @@ def output(program, words):
 
 
 def recording(draw):
-    """A recording's file, and its frames."""
+    """A recording's file, and its number of frames."""
     bits, channels, frames = draw.choice((16, 24)), draw.choice((1, 2)), draw.randrange(1, 20000)
     return (
         riff(fmt(channels, RATE, bits), data(draw.randbytes(frames * channels * bits // 8))),

@@ -2,10 +2,10 @@
 """Reads wave files of other programs as these do:
 python3 tests/checks/real_waves.py PROGRAM
 
-sox, ffmpeg, libsndfile's tools, espeak-ng and flac write the files; soxi, ffprobe and sndfile-info
-read them, and exiftool the lengths of their cue points. None of those that write makes a chunk
-`ltxt` of its own: flac writes out the chunks of a file that it packed. What is not installed is
-skipped, with a line that says so. For a file that is refused, the number is given here.
+sox, ffmpeg, the tools of libsndfile, espeak-ng and flac write the files. soxi, ffprobe and
+sndfile-info read them, and exiftool reads the lengths of their cue points. None of the writers
+creates `ltxt` chunks; flac writes those of a file that it has compressed. A program that is not
+installed is skipped and reported. The error number of a rejected file is given here.
 """
 import json
 import os
@@ -88,7 +88,7 @@ def sndfile_info(path):
 
 
 def exiftool(path):
-    """What it tells of lengths: of each chunk the name and the length."""
+    """The lengths that it reports: the name and the length of each chunk."""
     told = output("exiftool", "-a", "-s3", "-LabeledText", path)
     return {
         "lengths": [tuple(int(number) for number in line.split()[:2]) for line in told.splitlines()]
@@ -100,13 +100,13 @@ LENGTH_READERS = [("exiftool", exiftool)]
 
 
 def unescaped(text):
-    """A text that `radio info` tells, as its bytes and then as UTF-8."""
+    """A text as `radio info` prints it, as bytes and then as UTF-8."""
     raw = re.sub(r"\\x([0-9a-f]{2})", lambda found: chr(int(found.group(1), 16)), text)
     return raw.encode("latin-1").decode("utf-8", "replace")
 
 
 def radio(program, path):
-    """The facts that `radio info` tells of a file, or the number of its refusal."""
+    """The facts that `radio info` prints about a file, or its error number."""
     told = subprocess.run(
         [program, "info", path], stdout=subprocess.PIPE, stderr=subprocess.PIPE, text=True
     )
@@ -125,8 +125,8 @@ def radio(program, path):
 
 
 def same(fact, ours, theirs):
-    """Whether two programs say the same: texts are compared line by line, without the space round
-    them."""
+    """Whether two programs say the same: texts are compared line by line, without surrounding
+    spaces."""
     return (
         ours == theirs
         if fact not in FIELDS
@@ -156,7 +156,7 @@ def sox(*more, length="0.5"):
     return ["sox", "-n", *more, "FILE", "synth", length, "sine", "440", "gain", "-6"]
 
 
-# a name, the command that writes FILE, and the number of the refusal where it is one
+# a name, the command that writes FILE, and the error number if it is rejected
 FILES = [
     ("sox 8 bits", sox("-r", "44100", "-c", "1", "-b", "8"), None),
     ("sox 16 bits", sox("-r", "44100", "-c", "2", "-b", "16"), None),

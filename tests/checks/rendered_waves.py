@@ -1,19 +1,19 @@
 #!/usr/bin/env python3
-"""Compares rendered files as other programs and `radio info` read them: python3
-tests/checks/rendered_waves.py PROGRAM
+"""Compares rendered files as other programs and `radio info` read them:
+python3 tests/checks/rendered_waves.py PROGRAM
 
-The samples have to be those of the recording. python3's own module `wave` always reads them; soxi,
-ffprobe, sndfile-info, mediainfo, and sox and ffmpeg for the samples, where they are installed. What
-`radio info` tells of a file's `bext` chunk has to be the head that the file was rendered with.
+The samples must be those of the recording. Python's own module `wave` always reads them; soxi,
+ffprobe, sndfile-info and mediainfo do, and sox and ffmpeg read the samples, if they are installed.
+The `bext` chunk that `radio info` prints must be the head with which the file was rendered.
 
-sndfile-info tells the cue points and their labels, and ffprobe tells them as chapters: both have to
-be the markers. exiftool tells the lengths: they have to be those of the markers, cut at the
+sndfile-info reports the cue points and their labels, and ffprobe reports them as chapters: both
+must be the markers. exiftool reports the lengths: they must be those of the markers, cut at the
 programme's end.
 
-Known to be told otherwise by others: python's `wave` and soxi show neither the `bext` chunk nor cue
-points, and mediainfo no cue points; sndfile-info reads of the lengths that there is one, and
-ffprobe none: a chapter lasts to the next one; mediainfo counts no frames of a file that has none,
-so files without a frame are read by python's `wave` alone.
+Known differences: Python's `wave` and soxi show neither the `bext` chunk nor cue points, and
+mediainfo shows no cue points. sndfile-info shows only that there is a length, and ffprobe shows
+none: a chapter lasts to the next one. mediainfo counts no frames in a file without any, so only
+Python's `wave` reads files without frames.
 """
 import hashlib
 import json
@@ -34,7 +34,7 @@ from formats.waves import data, fmt, riff
 
 
 def told(program, path):
-    """The facts that `radio info` tells, and its cues."""
+    """The facts that `radio info` prints, and its cues."""
     lines = subprocess.run(
         [program, "info", path], check=True, stdout=subprocess.PIPE, text=True
     ).stdout.splitlines()
@@ -69,7 +69,7 @@ def mediainfo(path):
         "bits": "BitDepth",
         "frames": "SamplingCount",
     }
-    # it tells no frames of what is shorter than a millisecond
+    # it reports no frames if the duration is shorter than a millisecond
     return {
         fact: int(tracks["Audio"][name])
         for fact, name in names.items()
@@ -91,7 +91,7 @@ def ffmpeg_samples(path, bits):
 
 
 def cue_points(path):
-    """What sndfile-info tells of cue points: position and label."""
+    """The cue points according to sndfile-info: position and label."""
     told = output("sndfile-info", path)
     labels = dict(re.findall(r"labl : (\d+) : (.*)", told))
     return [
@@ -101,7 +101,7 @@ def cue_points(path):
 
 
 def chapters(path):
-    """The same as chapters, as ffprobe tells them."""
+    """The cue points as chapters, according to ffprobe."""
     told = json.loads(output("ffprobe", "-of", "json", "-show_chapters", path))["chapters"]
     return [(int(one["start"]), one["tags"]["title"]) for one in told]
 
@@ -168,7 +168,7 @@ def compare(program, folder, rate, bits, channels, frames, markers, kind="any"):
                 name, other, facts
             )
     for name, teller in CUE_TELLERS:
-        # more cue points than a few are not listed by each of them
+        # some of them do not list more than a few cue points
         if shutil.which(name) and frames and len(markers) < 10:
             assert teller(paths["out.wav"]) == points, (name, teller(paths["out.wav"]), points)
     for name, reader in LENGTH_READERS:
@@ -185,7 +185,7 @@ def compare(program, folder, rate, bits, channels, frames, markers, kind="any"):
 
 
 def compare_head(program, folder, texts):
-    """Renders nothing under a head, and reads the head again."""
+    """Renders an empty programme with a head, and reads the head again."""
     paths = {name: os.path.join(folder, name) for name in ("log", "out.wav")}
     with open(paths["log"], "wb") as file:
         file.write(log([]))

@@ -1,6 +1,7 @@
-"""Runs of each command that the checks of failures disturb: words, the files that lie there, what
-comes to standard input or from a peer, and what is right by the second reading (formats/answers.py,
-formats/read_messages.py)."""
+"""Runs of each command that the checks of failures disturb: the words, the files, standard input or
+the bytes of a peer, and the right result by the second reading (formats/answers.py,
+formats/read_messages.py).
+"""
 import hashlib
 import os
 import socket
@@ -22,7 +23,7 @@ PATIENCE = 30
 
 
 class Scene:
-    """A run of the program. `stream` is what a peer sends, where the run is a conversation."""
+    """A run of the program. `stream` is what a peer sends, if the run is a conversation."""
 
     def __init__(self, name, words, files, stdin=b"", stream=None, right=None):
         self.name, self.words, self.files, self.stdin, self.stream = (
@@ -31,7 +32,7 @@ class Scene:
         self.right = right or self.answer(files, stdin, stream)
 
     def answer(self, files, stdin, stream):
-        """What is right where the files have these bytes."""
+        """The right result if the files have these bytes."""
         if stream is None:
             return answer(self.words, files, stdin)
         try:
@@ -45,7 +46,7 @@ class Scene:
         )
 
     def again(self, files):
-        """The same run where these files are left."""
+        """The same run with the files that are left."""
         return (
             self
             if files == self.files
@@ -64,7 +65,7 @@ def markers(replica, count, size):
 
 
 def scenes(count, size):
-    """A run of each command or two, over logs of so many markers with titles of this size."""
+    """A run or two of each command, over logs of `count` markers with titles of `size` bytes."""
     ours, theirs = markers(A, count, size), markers(B, count, size)
     recording = waves.riff(
         waves.fmt(1, 48000, 16),
@@ -152,7 +153,7 @@ def scenes(count, size):
 
 
 def endless_scenes():
-    """Commands that read an input without end, which no memory holds."""
+    """Commands that read an endless input, which no memory can hold."""
     whole, zero, editor = log(markers(A, 3, 8)), "/dev/zero", "00000000-0000-0000-0000-00000000000c"
     words = [
         ["view", zero],
@@ -185,7 +186,7 @@ def read(path):
 
 
 class Told:
-    """What a run came to: status, output, errors, and the files that lie there afterwards."""
+    """The result of a run: status, output, errors, and the files that are there afterwards."""
 
     def __init__(self, status, output, errors, files):
         self.status, self.output, self.errors, self.files = status, output, errors, files
@@ -229,7 +230,7 @@ class Stage:
                 file.write(data)
 
     def run(self, scene, before=(), files=None, more=None):
-        """Runs the program in this scene, behind the words `before`; `files` lie there if not those
+        """Runs the program in this scene, with the words `before` in front; `files` replace those
         of the scene. `more` is added to its environment."""
         self.lay(scene.files if files is None else files)
         with open(os.path.join(self.told, "stdin"), "wb") as file:
@@ -283,7 +284,7 @@ class Stage:
 
 
 def converse(line, stream):
-    """Sends what a peer sends, and hears the other end out."""
+    """Sends the bytes of a peer, and reads everything that the other end sends."""
     if line is None:
         return
     with line:
@@ -301,7 +302,7 @@ def converse(line, stream):
 
 
 def caller(child, listener):
-    """The line of the program that calls here, if it does before it ends."""
+    """The connection from the program, if it calls before it ends."""
     while True:
         try:
             return listener.accept()[0]
@@ -311,7 +312,7 @@ def caller(child, listener):
 
 
 def called(child, port):
-    """The line to the program, if it listens before it ends."""
+    """The connection to the program, if it listens before it ends."""
     end = time.monotonic() + PATIENCE
     while child.poll() is None and time.monotonic() < end:
         try:

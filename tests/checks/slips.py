@@ -1,10 +1,10 @@
 """Edits logs with several programs at once, and loses nothing: tests/checks/slips.py PROGRAM
 [--edits N]
 
-Several programs that edit one log at once, each again while it is refused (37): no edit that was
-told as done is missing in the end. A log that is edited while it is served, an OUT that may not be
-there, the permissions of a file that is replaced, a link, a limit of the size of files, several
-programs that pull into one log, and new names of editors.
+Several programs edit one log at once, and each tries again when it fails (37): no edit that was
+reported as done may be missing at the end. It also tries a log that is edited while it is served,
+an OUT that must not exist, the permissions of a replaced file, a link, a limit on the size of
+files, several programs that pull into one log, and new names of editors.
 """
 import argparse
 import concurrent.futures
@@ -46,8 +46,8 @@ def read(name):
 
 
 def edits_of(program, editor, edits):
-    """Makes edits of one log as one editor, each again until it is done, with a part of its own
-    name in the way of none; how many were refused, and what else was told."""
+    """Makes edits of one log as one editor, each again until it succeeds; returns how many failed
+    with 37, and other results."""
     refused, wrong = 0, []
     for number in range(edits):
         script = "script %d" % editor
@@ -85,7 +85,7 @@ def many_at_once(program, edits):
 
 
 def edited_while_served(program):
-    """A meeting during which its log is edited: the meeting is refused, and the edit stays."""
+    """A meeting during which its log is edited: the meeting fails, and the edit stays."""
     write("served.log", logs.log([logs.add_marker((1, logs.A, 1), 480, "News")]))
     with socket.socket() as probe:
         probe.bind(("127.0.0.1", 0))
@@ -118,7 +118,7 @@ def edited_while_served(program):
 
 
 def pulls_of(program, number):
-    """Pulls a log of its own into the one of all, again until it is done."""
+    """Pulls a log into the common one, again until it succeeds."""
     while True:
         told = run(program, "pull", "all.log", "own %d" % number)
         if told != REFUSED and not (told[0] == 1 and told[2] == REFUSED[2]):
@@ -126,7 +126,7 @@ def pulls_of(program, number):
 
 
 def many_pull_at_once(program):
-    """Several programs that pull into one log: none of what they pulled is missing."""
+    """Several programs that pull into one log: no operation that they pulled is missing."""
     write("all.log", logs.log([]))
     own = [
         [logs.add_marker((clock, number, clock), clock, "own %d" % number) for clock in range(1, 6)]
@@ -143,8 +143,8 @@ def many_pull_at_once(program):
 
 
 def under_a_size_limit(program):
-    """A limit of the size of files: 37 where the shell ignores its signal; else the signal ends the
-    program. OUT stays as it was either way."""
+    """A limit on the size of files: 37 if the shell ignores its signal; otherwise the signal ends
+    the program. OUT is unchanged in both cases."""
     write(
         "large.log",
         logs.log(
@@ -172,7 +172,7 @@ def under_a_size_limit(program):
 
 
 def only_one_is_new(program):
-    """Of several programs that may not replace OUT one makes it."""
+    """If several programs must not replace OUT, only one of them makes it."""
     write("one.log", logs.log([logs.add_marker((1, logs.A, 1), 480, "News")]))
     rounds = []
     with concurrent.futures.ThreadPoolExecutor(EDITORS) as pool:
@@ -208,8 +208,8 @@ def keeps_permissions(program):
 
 
 def replaces_a_link(program):
-    """A link that is OUT is replaced by the file, and what it led to stays; of a file with two
-    names the other keeps what it had."""
+    """If OUT is a link, the file replaces it, and the link's target is unchanged; if the file has
+    two names, the other one keeps its content."""
     write("target.log", logs.log([]))
     os.symlink("target.log", "link.log")
     os.link("target.log", "other.log")

@@ -1,16 +1,16 @@
 #!/usr/bin/env python3
 """Types the commands of every page as a newcomer does: python3 tests/checks/story.py PROGRAM
 
-The `sh` blocks of README.md, CONTRIBUTING.md and each page of docs are typed in their order, page
-by page, in a folder of its own that has `examples`, with `radio` on the PATH; that of README.md has
-the program only where a build puts it, and in place of its `rt run` the program runs. A `text`
-block right after an `sh` block is what it prints, and so is `# ops N` at the end of a line. A block
-`sh norun NAME` is not typed: the check NAME runs its like (prose.py).
+The `sh` blocks of README.md, CONTRIBUTING.md and each page of docs are run in order, page by page,
+in a temporary folder that has `examples`, with `radio` on the PATH. For README.md the program is
+only where a build puts it, and its `rt run` runs the program instead. A `text` block directly after
+an `sh` block is its output, and so is `# ops N` at the end of a line. A block `sh norun NAME` is
+not run: the check NAME runs similar commands (prose.py).
 
-The scripts that README.md shows have to be those of `examples`. Then the logs of `examples` are
-made anew from their scripts, which have to be the same bytes; the sessions of the first picture
-have to be theirs, and the tutorial has to draw the second one. Where `rt` is there, it has to be
-the kit that README.md names, with the logic that docs/build/proved.md names.
+The scripts in README.md must be those of `examples`. Then the logs of `examples` are made from
+their scripts, with equal bytes; the sessions of the first picture must be theirs, and the tutorial
+must draw the second one. If `rt` is installed, it must be the kit that README.md names, with the
+logic that docs/build/proved.md names.
 """
 import filecmp
 import glob
@@ -42,8 +42,8 @@ def pages():
 
 
 def steps_of(page):
-    """The commands of a page, block by block, each with what it prints: the numbers of changes
-    after the edits, and then the text block right after it, if there is one."""
+    """The commands of a page, block by block, each with its output: the numbers of changes after
+    the edits, and then the text block directly after it, if there is one."""
     steps, end = [], None
     for place in BLOCK.finditer(text_of(page)):
         kind, text = place.group(1), place.group(2)
@@ -59,8 +59,7 @@ def steps_of(page):
 
 
 def type_page(page, folder, path):
-    """Types the steps of a page in one shell, so that each begins where the one before has
-    ended."""
+    """Runs the steps of a page in one shell, so that each starts where the one before has ended."""
     steps = steps_of(page)
     script = "printf '\\036'\n".join(commands.replace(BUILD, "out/radio") for commands, _ in steps)
     env = dict(os.environ, PATH=path)
@@ -84,7 +83,7 @@ def type_page(page, folder, path):
 
 
 def check_pages(program):
-    """How many blocks of all pages were typed, and how many were not."""
+    """How many blocks of all pages were run, and how many were not."""
     typed = left = 0
     for page in pages():
         left += len(re.findall(r"^```sh norun ", text_of(page), re.M))
@@ -109,7 +108,7 @@ def check_pages(program):
 
 
 def check_readme():
-    """How many scripts README.md shows, each as it is in `examples`."""
+    """The number of scripts in README.md, each as it is in `examples`."""
     readme = text_of("README.md")
     assert sum(BUILD in commands for commands, _ in steps_of("README.md")) == 1, (
         "README.md has not one block with `%s`" % BUILD
@@ -125,7 +124,7 @@ def check_readme():
 
 
 def check_kit():
-    """Whether the kit at hand is the one that the pages name."""
+    """Checks that the installed kit is the one that the pages name."""
     if not shutil.which("rt"):
         print("skipped: the kit's name, no rt")
         return
@@ -139,8 +138,8 @@ def check_kit():
 
 
 def picture_of(path):
-    """The logs that the picture's bold lines name, each with what stands after the name and the
-    lines below it; and all other text."""
+    """The logs that the picture's bold lines name, each with the text after the name and the lines
+    below it; and all other text."""
     logs, rest = [], []
     for text in ElementTree.parse(path).iter("{http://www.w3.org/2000/svg}text"):
         line = "".join(text.itertext())
@@ -156,8 +155,8 @@ def picture_of(path):
 
 
 def is_printed(shown, printed):
-    """Whether these lines are the printed ones, where `…` stands for what the picture leaves
-    out."""
+    """Whether these lines are the printed ones, where `…` stands for the parts that the picture
+    leaves out."""
     return (
         len(shown) == len(printed)
         and all(
@@ -168,8 +167,8 @@ def is_printed(shown, printed):
 
 
 def check_picture(program, folder):
-    """How many lines of sessions the picture shows, each as `radio view` prints it. A merge beside
-    a name makes that log, and the same bytes with its inputs turned."""
+    """The number of session lines in the picture, each as `radio view` prints it. A merge next to a
+    name makes that log, and equal bytes with its inputs swapped."""
     logs, rest = picture_of(PICTURE)
     assert rest == ["the same bytes in either order"], (
         "two_editors.svg has other text than its sessions: %s" % rest
@@ -193,7 +192,7 @@ def check_picture(program, folder):
 
 
 def check_examples(program, folder):
-    """How many logs `examples` has, each made anew by its scripts."""
+    """The number of logs in `examples`, each made again from its scripts."""
     subprocess.run(
         ["sh", os.path.join(EXAMPLES, "make.sh"), program],
         check=True,

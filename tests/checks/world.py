@@ -2,18 +2,19 @@
 """Compares worlds of editors with a second reading: tests/checks/world.py PROGRAM [--lists N]
 [--events N] [--seed N]
 
-PROGRAM is crates/test_world/out/test_world, which runs lists of events and prints what was sent and
-what each editor has and shows. The reading is written from docs/build/model.md alone, in the
-plainest way: a dictionary from dot to operation for what an editor has taken and one for what it
-has saved, one list of what was sent, and for an edit the operation that it makes of the editor's
-set. Sessions are told by tests/checks/model.py. The lists are drawn at random: five editors add,
-change, remove and bring back tracks, clips and markers, save, take what was sent in any order and
-often twice, and restart; now and then an edit names what is not there, and an event no editor or
-nothing that was sent. Stops at the first list of which the two tell different worlds.
+PROGRAM is crates/test_world/out/test_world, which runs lists of events and prints the sent
+operations and the log and session of each editor. The second reading is written from
+docs/build/model.md alone, in the plainest way: a dictionary from dots to operations for what an
+editor has and one for what it has saved, a list of the sent operations, and for an edit the
+operation that it makes from the editor's set. Sessions come from tests/checks/model.py. The lists
+are drawn at random: five editors add, change, remove and restore tracks, clips and markers, save,
+take sent operations in any order and often twice, and restart. Now and then an edit names a missing
+item, and an event names no editor or no sent operation. Stops at the first list for which the two
+worlds differ.
 
-Of each world that it draws it is seen too that no dot names two operations, that each editor's own
-operations are ready in its set, and that the editors who have taken all that was sent hold nothing
-back."""
+For each world it also checks that no dot names two operations, that each editor's own operations
+are ready in its set, and that editors who have taken all sent operations hold none back.
+"""
 import argparse
 import os
 import random
@@ -29,20 +30,19 @@ from model import ADDS, FADES, FITS, FRAMES, NAMED, SHORTS, SOURCES, TITLES, Op,
 
 EDITORS = 5
 NAMES = [0, 1, 10, 11, 12, 2**64, 2**127, 2**128 - 2, 2**128 - 1]
-# the stamp that a change is written under, which the program does not look at: its clock is greater
-# than that of any item
+# the stamp of a change, which the program ignores: its clock is greater than that of any item
 NO_STAMP = (2**62, 0, 1)
 KINDS = sorted(ADDS) + ["remove", "restore"] + sorted(NAMED)
 
 
 class Editor:
-    """An editor: its name, what it has taken and what it has saved, each by dot."""
+    """An editor: its name, the operations that it has and those that it has saved, each by dot."""
 
     def __init__(self, name):
         self.name, self.taken, self.saved, self.ready = name, {}, {}, {}
 
     def look(self):
-        """Finds which operations are ready, in one pass by rising stamp, since each names older
+        """Finds the ready operations in one pass in the order of stamps, as each names older
         ones."""
         self.ready = {}
         for op in sorted(self.taken.values(), key=lambda op: op.own):
@@ -73,8 +73,7 @@ class Editor:
         )
 
     def is_refused(self, kind, fields):
-        """Whether an edit names an item that no ready operation adds, or one that is not
-        present."""
+        """Whether an edit names an item that no ready operation adds, or that is not present."""
         named = [
             (fields[key], key.capitalize()) for key in ("track", "clip", "marker") if key in fields
         ]
@@ -88,7 +87,7 @@ class Editor:
         )
 
     def edit(self, kind, fields):
-        """The operation that an edit makes, if it is not refused."""
+        """The operation that an edit makes, if it succeeds."""
         if self.is_refused(kind, fields):
             return
         fields = dict(fields)
@@ -110,7 +109,7 @@ class Editor:
 
 
 class World:
-    """Editors, and the list of what was sent."""
+    """Editors, and the list of sent operations."""
 
     def __init__(self, names):
         self.editors, self.sent = [Editor(name) for name in names], []
@@ -121,7 +120,7 @@ class World:
         self.sent += [op for dot, op in sorted(editor.taken.items()) if dot not in was]
 
     def happen(self, event, place, *more):
-        """One event. What names nothing changes nothing."""
+        """One event. An event that names nothing changes nothing."""
         if place >= len(self.editors):
             return
         editor = self.editors[place]
@@ -145,7 +144,7 @@ class World:
         return "".join(told)
 
     def fault(self):
-        """What every history of editors has to keep, where it does not."""
+        """The violated rule of all histories of editors, if there is one."""
         seen = {}
         for op in self.sent + [op for editor in self.editors for op in editor.taken.values()]:
             if seen.setdefault(op.own[1:], op) is not op:
@@ -212,7 +211,7 @@ def words_of(kind, fields):
 
 
 def drawn(draw, events):
-    """A list of events as a line, and the world that it comes to."""
+    """A list of events as a line, and the resulting world."""
     names = draw.sample(NAMES, EDITORS)
     world, line = World(names), ["editor %s" % uuid.UUID(int=name) for name in names]
     for _ in range(events):
