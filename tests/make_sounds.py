@@ -1,9 +1,9 @@
 #!/usr/bin/env python3
 """Writes the recordings of examples/: python3 tests/make_sounds.py
 
-`jingle.wav`, three bells and their chord, and `voice.wav`, five vowels by a synthesiser of three
-formants, each 16 bits on one channel at 48,000 frames a second. Whole numbers alone, so that every
-machine writes the same bytes.
+`jingle.wav` has three bells and their chord, and `voice.wav` has five vowels by a synthesiser with
+three formants. Each has 16 bits on one channel, at 48,000 frames per second. All numbers are
+integers, so every machine writes the same bytes.
 """
 import os
 import sys
@@ -33,7 +33,7 @@ SINES = sines(4096)
 
 
 def bell(out, start, hertz, frames, loudness):
-    """Adds a tone with two overtones that dies away, a half each 4,800 frames."""
+    """Adds a tone with two overtones that fades, by half every 4,800 frames."""
     for index in range(frames):
         fading = ((9600 - index % 4800) << 16) // 9600 >> index // 4800
         for overtone, share in ((1, 8), (2, 3), (5, 1)):

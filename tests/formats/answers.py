@@ -1,8 +1,9 @@
-"""What `radio` answers to words and files, by the second reading in this folder: status, standard
-output, the refusal's number, and the files that it makes. The order of the refusals is that of
+"""The answers of `radio` to words and files, by the second reading in this folder: status, standard
+output, the error number, and the files that it makes. The order of the errors is that of
 docs/formats and docs/use/commands.md: a command checks its words, opens its files from left to
-right, and reads and checks each in turn (`sources` and `lay` open each where they read it); `merge`
-and `render` make OUT.part once their files are open, the others once all is known."""
+right, and reads and checks each in turn (`sources` and `lay` open each file when they read it).
+`merge` and `render` make OUT.part after opening their files, the others at the end.
+"""
 import hashlib
 
 from formats.diff_text import diff_by, side
@@ -30,17 +31,17 @@ OPTIONS = {
 }
 # more frames than these are not mixed here
 FRAMES_MIXED = 20_000
-# so many bytes of samples leave room for the rest of the file
+# with this number of bytes of samples, the rest of the file still fits
 BYTES_THAT_FIT = 3_900_000_000
 
 
 class TooMuch(Exception):
-    """A file that is too long to be worked out here."""
+    """A file that would take too long to work out here."""
 
 
 class Answer:
-    """What a command comes to: the number of its refusal if it has one, its output, and the files
-    that it makes with their bytes."""
+    """The result of a command: its error number if it fails, its output, and the files that it
+    makes."""
 
     def __init__(self, number=None, output=b"", made=None):
         self.number, self.output, self.made = number, output, made or {}
@@ -55,8 +56,7 @@ class Answer:
 
 
 class Folder:
-    """The files by their names, what comes to standard input, and whether what is made may not be
-    there."""
+    """The files by their names, standard input, and whether OUT must not exist."""
 
     def __init__(self, files, stdin, is_new=False):
         self.files, self.stdin, self.is_new = files, stdin, is_new
@@ -67,13 +67,13 @@ class Folder:
         return [self.files[name] for name in names]
 
     def logs(self, names):
-        """The union of the logs of these names, or of the one on standard input where there is
+        """The union of the logs with these names, or the log on standard input if there are
         none."""
         return union([read_log(data) for data in (self.open(*names) if names else [self.stdin])])
 
     def part(self, out):
-        """OUT.part is made, which may not be there; a name of no letter is not known to be none
-        before the part gets it."""
+        """Makes OUT.part, which must not exist. An empty name is rejected only when the part is
+        made."""
         refuse_unless(
             "/" not in out
             and out + ".part" not in self.files
@@ -83,8 +83,8 @@ class Folder:
 
 
 def formed(words, rate=None):
-    """The words beside those that ask for another form of lines, and what makes a text one of that
-    form, at this rate or at the one that is asked for."""
+    """The words without those that ask for another form of lines, and the function that gives a
+    text that form, at this rate or at the given one."""
     flags = {"--time", "--json"} & set(words)
     others, options = parted(
         [word for word in words if word not in flags], {"rate": "48000"}, {"--fields", "--view"}
@@ -140,7 +140,7 @@ def pull(folder, *words):
         folder.part(log)
     logs = [read_log(data) for data in inputs]
     together = union(logs)
-    # of each in order what is new to the logs before it, and what these have
+    # for each log in order: what is new to the logs before it, and what these have
     seen, lines = {dot(op) for op in logs[0]}, b""
     for name, ops in zip(names, logs[1:]):
         dots = {dot(op) for op in ops}
@@ -215,7 +215,7 @@ def diff(folder, *words):
 
 
 def stamps_of(words):
-    """The stamps whose texts these words are, all of them."""
+    """The stamps in these words, if all of them are stamps."""
     try:
         return [read_stamp(word.encode()) for word in words]
     except Refused as refused:
@@ -242,8 +242,8 @@ def lay(folder, *words):
 
 
 def parted_well(words):
-    """The names among the words, the options of the head and those of the format, which both have
-    to be taken."""
+    """The names among the words, the options of the head and those of the format, all of which must
+    be valid."""
     names, options = parted(words)
     head = {
         name: options[name] for name in ("description", "originator", "reference", "date", "time")
@@ -278,8 +278,8 @@ def check(folder, *words):
 
 
 def parted(words, defaults=OPTIONS, flags=(), several=()):
-    """The names among the words of `render`, or of another command whose options these are, and its
-    options; flags are passed over, and of `several` each value counts."""
+    """The names among the words of `render`, or of another command with these options, and its
+    options. Flags are skipped, and for the options `several` each value counts."""
     names, options, left = (
         [],
         dict(defaults, **{name: [] for name in several}),
@@ -307,7 +307,7 @@ COMMANDS = {
 
 
 def answer(words, files, stdin=b""):
-    """What the program answers to these words where these files lie, by name."""
+    """The program's answer to these words with these files, by name."""
     try:
         told = COMMANDS[words[0]](
             Folder(files, stdin, "--new" in words),

@@ -1,4 +1,4 @@
-"""Scripts, wave files and sessions of recordings drawn at random, mostly ones that are taken."""
+"""Scripts, wave files and sessions of recordings drawn at random, mostly valid ones."""
 import hashlib
 import struct
 
@@ -22,7 +22,7 @@ class Script:
         self.draw, self.ops, self.lines, self.made = draw, ops, [], []
 
     def item(self, role):
-        """An item of the log or of an earlier line, mostly one that fits."""
+        """An item of the log or of an earlier line, mostly of the right kind."""
         draw = self.draw
         fits = [
             "$%d" % line for line, kind in self.made if kind in FITS[role] or draw.random() < 0.02
@@ -94,7 +94,7 @@ def script(draw, ops):
 
 
 def damaged_script(draw, lines):
-    """A script of which a word is another one, or a line stands elsewhere."""
+    """A script in which a word is replaced or a line is moved."""
     some = list(lines.lines)
     at = draw.randrange(len(some))
     words = some[at].split(" ")
@@ -114,7 +114,7 @@ def damaged_script(draw, lines):
 
 
 def wave(draw, rate=None, most=60):
-    """A recording with a head, cue points, labels and lengths, some of them odd."""
+    """A recording with a head, cue points, labels and lengths, some of them unusual."""
     bits, channels = draw.choice([8, 16, 24, 32]), draw.choice([1, 1, 2, 3])
     rate = draw.choice([8000, 44100, 48000, 384001]) if rate is None else rate
     sound = draw.randbytes(draw.randint(0, most) * channels * bits // 8 + draw.choice([0, 0, 0, 1]))
@@ -261,7 +261,7 @@ def session(draw, files):
 
 
 def options(draw, rate):
-    """Words of `render` behind the names, mostly ones that are taken."""
+    """Words of `render` after the names, mostly valid ones."""
     words = []
     if draw.random() < 0.5:
         words += ["--bits", draw.choice(["16"] * 9 + ["24"] * 9 + ["8", "32"])]

@@ -10,7 +10,7 @@ def frame(body):
 
 
 def have(replicas):
-    """A Have: of each replica, rising, its run and its extras."""
+    """A Have: for each replica, in rising order, its run and its extras."""
     body = b"\1" + struct.pack(">I", len(replicas))
     for replica, run, extras in replicas:
         body += (
@@ -36,12 +36,13 @@ def summary(ops):
 
 
 def ops_body(ops):
-    """The body of the message of these operations, in the order in which they are given."""
+    """The body of the message with these operations, in the given order."""
     return b"\2" + struct.pack(">I", len(ops)) + b"".join(text for _, text in ops)
 
 
 def ops(some):
-    """Operations by rising dot, cut into messages from the left, each as long as it can be."""
+    """Operations in the order of their dots, cut into messages from the left, each as long as
+    possible."""
     rising = sorted(some, key=lambda op: (op[0][1], op[0][2]))
     frames, taken, length = b"", [], 5
     for op in rising:

@@ -7,13 +7,13 @@ DIGITS = set("0123456789abcdefABCDEF")
 
 
 def source_of(what):
-    """The digest that a word says."""
+    """The digest in a word."""
     refuse_unless(len(what) == 64 and set(what) <= DIGITS, BAD_DIGEST)
     return bytes.fromhex(what)
 
 
 def find_text(session, kind, what, is_one=False):
-    """Of a session: the stamps of what is found, a line each. `what` is a title, or of clips a
+    """The stamps that are found in a session, one per line. `what` is a title or, for clips, a
     digest."""
     items = {
         "track": lambda: [track for track in session.tracks if track.title == what],

@@ -1,14 +1,14 @@
-"""The lines of texts and of scripts, word by word, and their other forms: JSON, times in the place
-of frames, and frames in the place of times, by docs/use/output.md alone and not by the program
-under test."""
+"""The lines of texts and of scripts, word by word, and their other forms: JSON, times in place of
+frames, and frames in place of times, by docs/use/output.md alone and not by the program under test.
+"""
 import json
 import re
 from decimal import Decimal, localcontext
 from fractions import Fraction
 from functools import cache
 
-# what follows a key: names, each with how it is told; `rest` is all of the line that is left, `all`
-# each of its words
+# the words after a key: names, each with its kind; `rest` is the remaining line, `all` each of its
+# words
 ONE, NUMBER, FRAMES, FLAG, REST, ALL = "word", "number", "frames", "flag", "rest", "all"
 KEYS = {
     key: [(key, kind)]
@@ -56,8 +56,8 @@ ACTS = {
 
 
 def parts(line):
-    """The parts of a line of a text: each its name, or none of a key, how its words are told, and
-    these."""
+    """The parts of a line of a text: for each its name, or None for a key, the kind of its words,
+    and the words."""
     words, found = line.split(" "), []
 
     def take(slots):
@@ -156,7 +156,8 @@ def times_text(rate, text):
 
 
 def frames_word(rate, word):
-    """The nearest frame of a time, halves up; what is none, and one that is too far, stays."""
+    """The nearest frame of a time, halves up. A word that is no time, or one that is too great,
+    stays."""
     long, short = (
         re.fullmatch(rb"([0-9]+):([0-5][0-9]):([0-5][0-9])(?:\.([0-9]{1,9}))?", word),
         re.fullmatch(rb"([0-9]+)(?:\.([0-9]{1,9}))?s", word),
@@ -174,9 +175,9 @@ def frames_word(rate, word):
 
 @cache
 def fraction(tenths):
-    """The gain with a divisor from 1 to 1000 that is nearest to the amplitude of so many tenths of
-    a decibel, that of the smallest divisor first, where the amplitude rounded to a whole number is
-    one."""
+    """The gain with a divisor from 1 to 1000 that is nearest to the amplitude of this number of
+    tenths of a decibel, with the smallest divisor among equals; None if the amplitude is too
+    great."""
     with localcontext(prec=60):
         amplitude = Fraction(Decimal(10) ** (Decimal(tenths) / 200))
     gains = [
@@ -193,7 +194,7 @@ def fraction(tenths):
 
 
 def gain_word(word):
-    """The fraction of decibels; what is none, and one that is too great, stays."""
+    """The fraction for decibels. A word that is no level, or one that is too great, stays."""
     found = re.fullmatch(rb"([+-]?)([0-9]{1,3})(?:\.([0-9]))?dB", word)
     if not found:
         return word

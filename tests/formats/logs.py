@@ -52,7 +52,7 @@ def set_mute(own, item, flag):
 
 
 def remove(own, item, tags):
-    """The tags stand in the order in which they are given."""
+    """The tags are in the given order."""
     return (
         own,
         stamp(*own)
@@ -96,7 +96,7 @@ def head(count, magic=b"RMTS", version=1):
 
 
 def version_of(texts):
-    """The least version of a log that has operations of these texts: by their kind bytes."""
+    """The least version of a log with operations of these texts, by their kind bytes."""
     kinds = {text[32] for text in texts if len(text) > 32}
     return 3 if 14 in kinds else 2 if 13 in kinds else 1
 

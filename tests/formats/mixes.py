@@ -1,5 +1,6 @@
-"""The file that `radio render` makes of a session and recordings, or the number of its refusal, by
-docs/formats, docs/build/model.md and docs/use/errors.md alone: each sample by itself."""
+"""The file that `radio render` makes of a session and recordings, or its error number, by
+docs/formats, docs/build/model.md and docs/use/errors.md alone: each sample by itself.
+"""
 import hashlib
 import re
 
@@ -23,7 +24,7 @@ def check_format(rate, bits, channels):
 
 
 def audible(session):
-    """The clips that are not muted, of each track that is not."""
+    """The clips that are not muted, for each track that is not muted."""
     return [
         (track, [clip for clip in track.clips if not clip.mute])
         for track in session.tracks
@@ -32,8 +33,7 @@ def audible(session):
 
 
 class Mix:
-    """What is mixed of a session: `waves` are the recordings in the order in which they are
-    named."""
+    """The mix of a session: `waves` are the recordings in the order of their names."""
 
     def __init__(self, session, waves, rate, bits, channels):
         self.session, self.rate, self.bits, self.channels = session, rate, bits, channels
@@ -48,7 +48,7 @@ class Mix:
         refuse_unless(self.size <= MOST_BYTES, TOO_LONG)
 
     def contribution(self, track, clips, frame, channel):
-        """What a track gives: its clip of the greatest place under both gains and its fades,
+        """The part of a track: its clip with the greatest place, with both gains and its fades,
         rounded to the nearest, halves up."""
         covering = [clip for clip in clips if clip.at <= frame < clip.at + clip.length]
         if not covering:

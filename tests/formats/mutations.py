@@ -1,6 +1,7 @@
-"""Ways in which bytes get damaged, drawn at random: bits and bytes changed, parts cut out, put in,
-doubled and exchanged, numbers changed. The frames of messages, the digest of a log and the sizes of
-a wave file can be mended afterwards, so that a reader comes to what is behind them."""
+"""Damage to bytes, drawn at random: bits and bytes are changed, parts are cut, inserted, doubled
+and swapped, and numbers are changed. The frames of messages, the digest of a log and the sizes of a
+wave file can be corrected afterwards, so that a reader reaches the bytes after them.
+"""
 import struct
 
 from formats.exchange import frame
@@ -70,8 +71,7 @@ def overwrite(draw, data):
 
 
 def change_number(draw, data):
-    """A number of 1, 2, 4 or 8 bytes, of either order, that becomes one at an edge, or one near to
-    what it is."""
+    """A number of 1, 2, 4 or 8 bytes, in either order, becomes a limit or changes a little."""
     size = draw.choice([1, 2, 4, 4, 8])
     if len(data) < size:
         return data
@@ -85,14 +85,14 @@ def change_number(draw, data):
 
 KEEPING = [flip, change_byte, change_number]
 CHANGES = KEEPING * 2 + [change_number, cut_end, cut_out, put_in, double, overwrite]
-# where an operation may have a stamp: its own, behind the kind byte, behind a flag, behind another
-# stamp with a flag or a count, or behind a digest
+# where an operation may have a stamp: its own, after the kind byte, after a flag, after another
+# stamp with a flag or a count, or after a digest
 STAMPS = [0, 33, 34, 65, 66, 67, 99]
 
 
 def damaged(draw, data, other=b"", changes=CHANGES):
-    """These bytes with one damage or a few; now and then their front with the end of others of
-    their kind behind it."""
+    """These bytes with one damage or a few; now and then their beginning with the end of others of
+    their kind."""
     if other and draw.random() < 0.08:
         return data[: place(draw, data)] + other[place(draw, other) :]
     for _ in range(draw.choice([1, 1, 1, 1, 2, 3])):
@@ -102,7 +102,7 @@ def damaged(draw, data, other=b"", changes=CHANGES):
 
 
 def damaged_records(draw, records):
-    """A list of bytes in which one is damaged, doubled, left out, or stands elsewhere."""
+    """A list of bytes in which one is damaged, doubled, left out, or moved."""
     records = list(records)
     if not records:
         return [draw.randbytes(draw.randint(1, 60))]
@@ -123,13 +123,13 @@ def damaged_records(draw, records):
 
 
 def counted(draw, count):
-    """Mostly how many there are."""
+    """Mostly the right count."""
     return count if draw.random() < 0.9 else draw.choice([max(count - 1, 0), count + 1, *NUMBERS])
 
 
 def damaged_log(draw, data, records, other):
-    """A log in which the bytes or the records are damaged; its digest is mended, mostly, and so is
-    the count of the records."""
+    """A log with damaged bytes or records; mostly its digest is corrected, and so is the count of
+    the records."""
     if draw.random() < 0.5:
         some = damaged_records(draw, records)
         version = version_of(some) if draw.random() < 0.9 else draw.choice([0, 1, 1, 2, 2, 3, 3, 4])
@@ -139,7 +139,7 @@ def damaged_log(draw, data, records, other):
 
 
 def damaged_frames(draw, bodies):
-    """Frames of which the bodies or the bytes are damaged."""
+    """Frames with damaged bodies or bytes."""
     how = draw.random()
     if how < 0.65:
         return b"".join(frame(body) for body in damaged_records(draw, bodies))
@@ -147,8 +147,7 @@ def damaged_frames(draw, bodies):
 
 
 def damaged_wave(draw, data, other):
-    """A wave file whose bytes or chunk sizes are damaged; the size of the whole is mended,
-    mostly."""
+    """A wave file with damaged bytes or chunk sizes; mostly the size of the whole is corrected."""
     how = draw.random()
     hurt = (
         change_size(draw, data)
@@ -165,7 +164,7 @@ def damaged_wave(draw, data, other):
 
 
 def change_size(draw, data):
-    """The size of a chunk is another one."""
+    """Changes the size of a chunk."""
     names = [
         at
         for name in (

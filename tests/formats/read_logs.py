@@ -1,5 +1,6 @@
-"""Operations and logs read from bytes, or the number of their refusal, by docs/formats and docs/use
-alone and not by the program under test."""
+"""Operations and logs read from bytes, or the error number, by docs/formats and docs/use alone and
+not by the program under test.
+"""
 import hashlib
 
 from formats import logs
@@ -13,7 +14,7 @@ BAD_MAGIC, BAD_VERSION, DAMAGED, BAD_RECORD, OUT_OF_ORDER, TRAILING, CONFLICT, V
 )
 NEWEST, LONGEST_FADE = 3, 1048576
 
-# by kind byte: the kind, and its fields in their order, each with how it is read
+# by kind byte: the kind, and its fields in their order, each with its reader
 KINDS = {
     1: ("add_track", [("after", "place"), ("title", "title")]),
     2: ("move_track", [("track", "name"), ("after", "place")]),
@@ -39,12 +40,12 @@ KINDS = {
     13: ("set_fade", [("clip", "name"), ("fade_in", "fade"), ("fade_out", "fade")]),
     14: ("set_marker_length", [("marker", "name"), ("span", "frame")]),
 }
-# the version of logs that a kind byte came with, where it is not the first
+# the version of logs that introduced a kind byte, if it is not the first
 CAME_WITH = {13: 2, 14: 3}
 
 
 def is_title(data):
-    """Whether these bytes are the text of a title, of whatever length a byte can tell."""
+    """Whether these bytes are the text of a title, of any length that a byte can hold."""
     try:
         text = data.decode()
     except UnicodeDecodeError:
@@ -75,7 +76,7 @@ class Reader:
         return clock, replica, seq
 
     def name(self):
-        """A stamp that is named, which is older than the operation's own."""
+        """The stamp of a named item, which is older than the operation's own."""
         named = self.stamp()
         refuse_unless(named[0] < self.own[0], BAD_FIELD)
         return named
@@ -127,7 +128,7 @@ class Reader:
         return tags
 
     def op(self, version):
-        """An operation, as a log of this version may have it."""
+        """An operation of a log of this version."""
         self.own = self.stamp()
         byte = self.number(1)
         refuse_unless(byte in KINDS and CAME_WITH.get(byte, 1) <= version, BAD_TAG)
@@ -136,7 +137,7 @@ class Reader:
 
 
 def read_op(data, at=0, version=NEWEST):
-    """The operation that begins there, and where it ends."""
+    """The operation that begins there, and its end."""
     reader = Reader(data, at)
     return reader.op(version), reader.at
 
@@ -146,8 +147,8 @@ def dot(op):
 
 
 def read_rising(data, at, count, bad_record, out_of_order, version=NEWEST):
-    """So many operations by rising dot, and where the last one ends. A record that is none and one
-    that does not rise are refused by these numbers."""
+    """This number of operations by rising dot, and the end of the last one. The two numbers are the
+    errors for a record that is no operation and for one that does not rise."""
     ops = []
     for _ in range(count):
         try:

@@ -1,5 +1,6 @@
-"""Wave files read from bytes, the number of their refusal, and the text of `radio info`, by
-docs/formats/wave.md and docs/use/output.md alone and not by the program under test."""
+"""Wave files read from bytes, their error numbers, and the text of `radio info`, by
+docs/formats/wave.md and docs/use/output.md alone and not by the program under test.
+"""
 import struct
 
 from formats.refused import refuse_unless
@@ -17,8 +18,8 @@ TEXTS = {
 
 
 def chunks_of(data, at, end):
-    """The chunks from here to there, each its name and its content, and whether the last one is
-    longer than the bytes left."""
+    """The chunks in this range, each its name and its content, and whether the last one is longer
+    than the remaining bytes."""
     chunks = []
     while end - at >= 8:
         size = int.from_bytes(data[at + 4 : at + 8], "little")
@@ -34,7 +35,7 @@ def up_to_zero(data):
 
 
 class Wave:
-    """What a wave file says."""
+    """The content of a wave file."""
 
     def __init__(self, file):
         refuse_unless(len(file) >= 8 and file[:4] == b"RIFF", NOT_RIFF)
@@ -76,7 +77,7 @@ class Wave:
         return int.from_bytes(data, "little", signed=True) << (32 - self.bits)
 
     def extension(self):
-        """The lines on the broadcast extension."""
+        """The lines about the broadcast extension."""
         content = self.first(b"bext")
         if content is None or len(content) < 602:
             return ["bext none"]
@@ -91,8 +92,8 @@ class Wave:
         ]
 
     def first_by_name(self, wanted, least, value):
-        """By name of a cue what the first chunk of this kind in the lists says of it, of those that
-        have so many bytes."""
+        """By cue point: the value from the first chunk of this kind in the lists that has enough
+        bytes."""
         found = {}
         for name, content in self.chunks:
             if name == b"LIST" and content[:4] == b"adtl":
@@ -102,7 +103,7 @@ class Wave:
         return found
 
     def cues(self):
-        """The lines on the cues."""
+        """The lines about the cue points."""
         content = self.first(b"cue ") or b""
         labels = self.first_by_name(
             b"labl", 4, lambda said: " label " + escaped(up_to_zero(said[4:]))

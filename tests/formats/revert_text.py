@@ -1,13 +1,14 @@
 """The script of `radio revert`, by docs/use/scripts.md and docs/formats/log.md alone and not by the
-program under test: of each field the writes of ready operations stand on a stack by rising stamp,
-from which those that are taken back are lifted, the newest first."""
+program under test: the writes of a field by ready operations are a stack, sorted by stamps, from
+which the reverted ones are removed, the newest first.
+"""
 from formats.logs import stamp_text
 from formats.refused import Refused
 from formats.sessions import ADDS, live_tags, ready_of
 
 NO_SUCH_ITEM = 21
-# by kind: the word of the line that writes the field, the field, and which field of the operation
-# names the item
+# by kind: the word of the line that writes the field, the field, and the field of the operation
+# that names the item
 WRITERS = {
     "move_track": ("move-track", "track place", "track"),
     "move_clip": ("move-clip", "clip place", "clip"),
@@ -22,7 +23,7 @@ WRITERS = {
 
 
 def values(op):
-    """What an operation writes: a value for each field."""
+    """The values that an operation writes, by field."""
     return {
         "add_track": lambda: {
             "track place": op.after, "title": op.title, "gain": (1, 1), "mute": 0
@@ -57,7 +58,7 @@ def item_of(op):
 
 
 class Session:
-    """What stands while the lines are read, from the newest operation on."""
+    """The state while the lines are read, from the newest operation on."""
 
     def __init__(self, ops):
         self.ready = sorted(ready_of(ops), key=lambda op: op.own)
@@ -126,7 +127,7 @@ class Session:
 
 
 def revert_text(ops, stamps):
-    """Of operations as values: the lines that take those of these stamps back."""
+    """The lines that revert the operations with these stamps."""
     named = {op.own: op for op in ops}
     for stamp in stamps:
         if stamp not in named:

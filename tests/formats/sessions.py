@@ -1,6 +1,7 @@
-"""Operations as values, which of them are ready, and the session of a set, by docs/formats/log.md
-alone and in the plainest way: what is ready by a fixed point, a field's value by a maximum, the
-order of tracks by sorting whole paths."""
+"""Operations as values, the ready ones among them, and the session of a set, by docs/formats/log.md
+alone and in the plainest way: readiness by a fixed point, a field's value by a maximum, the order
+of tracks by sorting whole paths.
+"""
 from collections import namedtuple
 
 from formats import logs
@@ -38,8 +39,8 @@ Session = namedtuple("Session", "tracks markers held")
 
 
 class Op:
-    """An operation: its stamp, what it does, and the fields of its body by name, in the order of
-    the format."""
+    """An operation: its stamp, its kind, and the fields of its body by name, in the order of the
+    format."""
 
     def __init__(self, own, kind, **fields):
         self.own, self.kind, self.fields = own, kind, fields
@@ -70,7 +71,7 @@ class Op:
         }[self.kind]()
 
     def fits(self, role):
-        """A role is a name, or the item that the operation has to be a tag of."""
+        """A role is a name, or the item of which the operation must be a tag."""
         if isinstance(role, str):
             return self.kind in FITS[role]
         return (
@@ -95,7 +96,7 @@ def ready_of(ops):
 
 
 def live_tags(ready, item):
-    """The tags of an item that none of its Removes lists, rising."""
+    """The live tags of an item, which no Remove lists, in rising order."""
     tags = {op.own for op in ready if op.fits(item)}
     return sorted(
         tags - {tag for op in ready if op.kind == "remove" and op.item == item for tag in op.tags}
@@ -103,8 +104,8 @@ def live_tags(ready, item):
 
 
 def last_write(ready, item, field, writers):
-    """What the writer with the greatest stamp gave a field, and that stamp. `writers` says by kind
-    which field names the item."""
+    """The latest value of a field, and its stamp. `writers` has for each kind the field that names
+    the item."""
     writes = [
         (op.own, field(op))
         for op in ready
@@ -117,12 +118,12 @@ def last_write(ready, item, field, writers):
 
 
 def place_of(ready, track):
-    """The place that a track was given last."""
+    """The latest place of a track."""
     return last_write(ready, track, lambda op: None, {"add_track": "", "move_track": "track"})[0]
 
 
 def path_in(ready):
-    """Of a place what the places in the tree are sorted by."""
+    """The key by which the places in the tree are sorted."""
     after = {op.own: op.after for op in ready if op.kind in FITS["Place"]}
 
     def path(place):
@@ -136,7 +137,7 @@ def path_in(ready):
 
 
 def session_of(ops, ready=None):
-    """The session of these operations; whoever knows which of them are ready may say so."""
+    """The session of these operations; the ready ones may be given."""
     ready = ready_of(ops) if ready is None else ready
 
     def title(item):

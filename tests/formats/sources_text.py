@@ -7,7 +7,7 @@ from formats.refused import Refused
 
 
 def recording(data):
-    """What a file is: a wave file, or the number of its refusal."""
+    """A recording: a wave file, or its error number."""
     try:
         return Wave(data)
     except Refused as refused:
@@ -29,7 +29,7 @@ def source_line(digest, clips, heard, found):
 
 
 def sources_text(session, files, flags=()):
-    """Of a session, and of files by name, in their order. `flags` may have one of `--missing` and
+    """The text for a session and for files by name, in their order. `flags` may have `--missing` or
     `--files`."""
     clips = [clip for track in session.tracks for clip in track.clips]
     heard = [clip.source for _, some in audible(session) for clip in some]

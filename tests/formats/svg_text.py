@@ -1,5 +1,6 @@
 """The text of `radio timeline --svg`, by docs/use/output.md alone and not by the program under
-test: a tree of elements that is written out at the end."""
+test: a tree of elements that is written at the end.
+"""
 
 import hashlib
 
@@ -20,8 +21,8 @@ STYLE = """text{fill:#222}.time{font-size:11px;text-anchor:middle;fill:#666}.tic
 
 
 class Element:
-    """An element with its attributes in order. What it holds are elements and texts; where it holds
-    these apart, each stands on a line."""
+    """An element with its attributes in order. Its content is elements and texts; if these are
+    separate, each is on a line."""
 
     def __init__(self, name, *inside, apart=False, **attributes):
         self.name, self.inside, self.between = name, inside, "\n" if apart else ""
@@ -39,7 +40,7 @@ class Element:
 
 
 def written(inside):
-    """An element, several on one line, or a text."""
+    """An element, several elements on one line, or a text."""
     if isinstance(inside, list):
         return "".join(map(written, inside))
     return inside.text() if isinstance(inside, Element) else escaped(inside)
@@ -68,8 +69,7 @@ def titled(name, text, *inside, **attributes):
 
 
 class Picture:
-    """A picture: `waves` are the recordings that are at hand, in the order in which they are
-    named."""
+    """A picture: `waves` are the given recordings, in the order of their names."""
 
     def __init__(self, rate, session, waves=()):
         self.rate, self.session, self.found = rate, session, {}
@@ -90,7 +90,7 @@ class Picture:
         )
 
     def wide(self, at, length):
-        """Where frames are drawn, and how wide."""
+        """The position and the width for a range of frames."""
         start = self.units(at)
         return LEFT + start, max(1, self.units(at + length) - start)
 
@@ -117,8 +117,7 @@ class Picture:
             yield Element("path", class_="fade", d="M%d 32l-%d -32h%dz" % (width, out, out))
 
     def peaks(self, clip, width):
-        """Of each unit of a clip's box the greatest magnitude of what is drawn in it, frame by
-        frame."""
+        """For each unit of a clip's box, the greatest magnitude in it, frame by frame."""
         peaks, wave = [0] * width, self.found[clip.source]
         for since in range(max(0, min(clip.length, wave.frames - clip.offset))):
             unit = self.units(clip.at + since) - self.units(clip.at)

@@ -1,11 +1,12 @@
 """The text of `radio timeline`, by docs/use/output.md alone and not by the program under test:
-column by column, and of each every clip and marker."""
+column by column, with every clip and marker of each.
+"""
 
 SHOWN = 20
 
 
 def columns_of(session, width):
-    """The span of a session, and how many frames a column has."""
+    """The span of a session, and the number of frames per column."""
     ends = [clip.at + clip.length for track in session.tracks for clip in track.clips] + [
         marker.at + (marker.span or 1) for marker in session.markers
     ]

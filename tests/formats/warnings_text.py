@@ -5,8 +5,8 @@ from formats.sessions import ready_of
 
 
 def is_covered(clip, clips):
-    """Whether clips that were placed later lie over this one at each of its frames: these are clips
-    that are not muted, as this one."""
+    """Whether clips that were placed later cover this one at each of its frames; neither this clip
+    nor the others are muted."""
     at, end = clip.at, clip.at + clip.length
     for other in sorted(
         (other for other in clips if other.place > clip.place), key=lambda other: other.at
@@ -17,12 +17,12 @@ def is_covered(clip, clips):
 
 
 def unmet(op, ready):
-    """The first item that an operation needs and that no ready one is."""
+    """The first item that an operation needs and that no ready operation adds."""
     return next(name for name, role in op.needs() if not (name in ready and ready[name].fits(role)))
 
 
 def warnings_text(ops, session, mix):
-    """Of operations, their session and what is mixed of it."""
+    """The text for operations, their session and its mix."""
     tracks, lines = audible(session), []
     clips = [clip for _, some in tracks for clip in some]
     for clip in clips:

@@ -17,7 +17,7 @@ def chunk(name, content, pad=True):
 
 
 def riff(*chunks, size=None, magic=b"RIFF", kind=b"WAVE"):
-    """A RIFF file of these chunks; `size` stands in place of the right size."""
+    """A RIFF file with these chunks; `size` replaces the right size."""
     body = kind + b"".join(chunks)
     return magic + struct.pack("<I", len(body) if size is None else size) + body
 
@@ -74,7 +74,7 @@ def labl(name, text):
 
 
 def ltxt(name, length, purpose=b"rgn ", places=bytes(8), text=b""):
-    """A length in frames, with what is not looked at: country, language, dialect and code page in
+    """A length in frames, with fields that are ignored: country, language, dialect and code page in
     eight bytes, and a text."""
     return chunk(b"ltxt", struct.pack("<II", name, length) + purpose + places + text)
 
@@ -84,7 +84,7 @@ def adtl(*chunks):
 
 
 def info(file, rate=48000, channels=1, bits=24, frames=1, extension=("bext none",), cues=()):
-    """The text of this file, whose lines on the extension and on the cues are given."""
+    """The text about this file, with the given lines about the extension and the cue points."""
     lines = [
         "digest " + hashlib.sha256(file).hexdigest(),
         "rate %d" % rate,
@@ -108,8 +108,9 @@ def rendered(
     time=b"00:00:00",
     reference_time=0,
 ):
-    """The file that `radio render` writes of these samples, the channels of a frame side by side,
-    and of the markers before the end: frame, title and, where it has one, length in frames."""
+    """The file that `radio render` writes with these samples, the channels of a frame next to each
+    other, and with the markers before the end: frame, title and, if it has one, length in
+    frames."""
     history = b"A=PCM,F=%d,W=%d,M=%s\r\n" % (rate, bits, b"mono" if channels == 1 else b"stereo")
     extension = bext(
         description, originator, reference, date, time, reference_time, history=history

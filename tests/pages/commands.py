@@ -1,4 +1,4 @@
-"""The words of the commands, and the refusals, from the code."""
+"""The words of the commands, and the errors, from the code."""
 import re
 
 from pages.text import STRING, WIDTH, files_of, fill, text_of, unescaped
@@ -114,7 +114,7 @@ def command(name):
 
 
 def options():
-    """With the commands that have it where two options have one name."""
+    """The shared options, with the commands that have them if two options have one name."""
     known, constants = commands()
     users = {
         name: [one.name for one in known.values() if name in one.constants] for name in constants
@@ -158,7 +158,8 @@ def refusals():
 
 
 def errors():
-    """Each refusal with its meaning; those that no file causes alone only by their names."""
+    """Each error with its meaning; errors that are not caused by files alone have only their
+    names."""
     rows, library = refusals()
     lines = [
         fill("**%d** %s: %s" % (one.number, one.name, one.meaning), "- ")

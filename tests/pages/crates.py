@@ -6,7 +6,7 @@ import sys
 
 from pages.text import files_of, fill, table, text_of
 
-# the rooms of the repository, from the lowest to the highest: each crate with what it does
+# the rooms of the repository, from the lowest to the highest: each crate with its purpose
 ROOMS = {
     "base": {
         "base_sha256": "SHA-256: of one message, of a stream, of eight messages at a time",
@@ -96,8 +96,8 @@ def all_below(name, uses):
 
 
 def crates(*room):
-    """The crates of a room with those directly below: what another one of them does not have below
-    it."""
+    """The crates of a room with those directly below: crates that are not below another one of
+    these."""
     uses = {name: [one for one in own if one in crates_txt()] for name, own in crates_txt().items()}
     rows = []
     for name in uses:
@@ -135,8 +135,7 @@ def laws():
 
 
 def first_line(path):
-    """What a check says that it does, up to how it is called, and whether it says how it is
-    called."""
+    """What a check does, up to its usage, and whether its usage is given."""
     text = text_of(path)
     if path.endswith(".py"):
         text = (ast.get_docstring(ast.parse(text)) or "").split("\n\n")[0]

@@ -7,7 +7,7 @@ from pages.text import files_of, fill, table, text_of
 
 
 def named_once(heads):
-    """The heads in lower case, the second one of a name with `2` after it."""
+    """The heads in lower case; the second of two equal ones gets `2` appended."""
     names = [head.lower() for head in heads]
     return ["%s 2" % name if name in names[:place] else name for place, name in enumerate(names)]
 
@@ -42,8 +42,8 @@ class Data:
 
 
 def gate_minutes(data):
-    """The processor minutes of the gate, and those on the clock, as bench/gate.py prints them or in
-    words."""
+    """The processor minutes of the gate, and its minutes on the clock, as bench/gate.py prints them
+    or in words."""
     whole = re.search(r"(?:in all|processor time) ([\d.]+)", data.text)
     clock = re.search(r"([\d.]+) minutes on the clock|wall ([\d.]+) min", data.text)
     return whole.group(1), clock.group(1) or clock.group(2)
@@ -79,7 +79,8 @@ def render_seconds(sources):
 
 
 def ahead(build):
-    """With how many recordings a build renders before each of the other programs."""
+    """The numbers of recordings with which a build renders faster than each of the other
+    programs."""
     counts = ["2", "8", "32"]
     seconds = {count: render_seconds(count) for count in counts}
     done = [

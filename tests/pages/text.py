@@ -1,4 +1,4 @@
-"""Files of the repository as text, and text as the pages have it."""
+"""Files of the repository as text, and text in the form that the pages have."""
 import glob
 import os
 import re
@@ -21,7 +21,7 @@ def files_of(pattern):
 
 
 def fill(text, first="", rest="  "):
-    """The text in lines of at most WIDTH characters, none of them broken inside a word or at a
+    """The text in lines of at most WIDTH characters, broken neither inside a word nor at a
     hyphen."""
     return textwrap.fill(
         text,
