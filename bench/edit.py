@@ -1,10 +1,12 @@
 #!/usr/bin/env python3
 """Times `radio edit`: bench/edit.py [--program PATH] [--logs N,N,..] [--lines N,N,..]
 
-Makes logs of a programme by six editors (bench/view.py's mixed history of markers), and runs the optimised program
-(crates/radio/out/radio) on each with scripts of several lengths, of which half of the lines add markers and half retitle or move them.
-Prints wall time, peak memory and the growth with the lines and with the log, beside `radio merge` of the same log, which reads and
-writes it and does nothing else. The best of three runs counts. Times are those of the machine at hand: compare ratios of one run only.
+Makes logs of a programme by six editors (bench/view.py's mixed history of markers), and runs the
+optimised program (crates/radio/out/radio) on each with scripts of several lengths, of which half of
+the lines add markers and half retitle or move them. Prints wall time, peak memory and the growth
+with the lines and with the log, beside `radio merge` of the same log, which reads and writes it and
+does nothing else. The best of three runs counts. Times are those of the machine at hand: compare
+ratios of one run only.
 """
 import argparse
 import os
@@ -37,7 +39,12 @@ def main():
     parser.add_argument("--program", default=RADIO)
     parser.add_argument("--logs", default="1000,10000,100000")
     parser.add_argument("--lines", default="1,100,1000")
-    parser.add_argument("--write", nargs=2, metavar=("OPERATIONS", "FILE"), help="write such a log into a file, and do nothing else")
+    parser.add_argument(
+        "--write",
+        nargs=2,
+        metavar=("OPERATIONS", "FILE"),
+        help="write such a log into a file, and do nothing else",
+    )
     options = parser.parse_args()
     if options.write:
         with open(options.write[1], "wb") as file:
@@ -48,14 +55,21 @@ def main():
     with tempfile.TemporaryDirectory() as folder:
         before, text, after = (os.path.join(folder, name) for name in ("log", "script", "out"))
         for size in (int(word) for word in options.logs.split(",")):
-            # by a process of its own: what is told of a child's memory begins with what its parent has
-            subprocess.run([sys.executable, os.path.abspath(__file__), "--write", str(size), before], check=True)
+            # by a process of its own: what is told of a child's memory begins with what its parent
+            # has
+            subprocess.run(
+                [sys.executable, os.path.abspath(__file__), "--write", str(size), before],
+                check=True,
+            )
             merge = best([options.program, "merge", after, before])[0]
             for lines in (int(word) for word in options.lines.split(",")):
                 with open(text, "w") as file:
                     file.write(script(lines))
                 seconds, peak, _ = best([options.program, "edit", NAME, before, text, after])
-                print("| %d | %d | %.3f | %d | %.3f | %.3f |" % (size, lines, seconds, peak, merge, (seconds - merge) * 1000 / lines))
+                print(
+                    "| %d | %d | %.3f | %d | %.3f | %.3f |"
+                    % (size, lines, seconds, peak, merge, (seconds - merge) * 1000 / lines)
+                )
                 sys.stdout.flush()
 
 

@@ -1,10 +1,12 @@
 #!/usr/bin/env python3
 """Times the first build: bench/first_build.py [--anyway] [--keep FOLDER]
 
-Runs the build of README.md, the block with `rt run --jobs`, in a fresh clone of the commit at hand with nothing beside it, and writes the
-minutes, the cores and the clock rate into bench/results/first_build.txt, from which tests/docs.py fills the README's sentence. It stops
-where other work runs (a load over 0.5), unless told --anyway, which the file then says. With --keep the clone stays in FOLDER, whose
-built crates (crates/*/out) can be copied into a checkout of the same commit.
+Runs the build of README.md, the block with `rt run --jobs`, in a fresh clone of the commit at hand
+with nothing beside it, and writes the minutes, the cores and the clock rate into
+bench/results/first_build.txt, from which tests/docs.py fills the README's sentence. It stops where
+other work runs (a load over 0.5), unless told --anyway, which the file then says. With --keep the
+clone stays in FOLDER, whose built crates (crates/*/out) can be copied into a checkout of the same
+commit.
 """
 import argparse
 import datetime
@@ -23,7 +25,11 @@ MOST_LOAD = 0.5
 
 def build_of(readme):
     """The block that builds the program."""
-    found = [block for block in re.findall(r"^```sh\n(.*?)^```$", readme, re.M | re.S) if "rt run --jobs" in block]
+    found = [
+        block
+        for block in re.findall(r"^```sh\n(.*?)^```$", readme, re.M | re.S)
+        if "rt run --jobs" in block
+    ]
     assert len(found) == 1, "README.md has not one block with `rt run --jobs`"
     return found[0]
 
@@ -33,13 +39,21 @@ def clock_rate():
     with open("/proc/cpuinfo") as file:
         text = file.read()
     named = re.search(r"model name.*@ ([\d.]+)GHz", text)
-    return float(named.group(1)) if named else float(re.search(r"cpu MHz\s*: ([\d.]+)", text).group(1)) / 1000
+    return (
+        float(named.group(1))
+        if named
+        else float(re.search(r"cpu MHz\s*: ([\d.]+)", text).group(1)) / 1000
+    )
 
 
 def main():
     parser = argparse.ArgumentParser(description=__doc__.split("\n")[0])
     parser.add_argument("--anyway", action="store_true", help="measure also beside other work")
-    parser.add_argument("--keep", metavar="FOLDER", help="make the clone in FOLDER, which is not there yet, and leave it")
+    parser.add_argument(
+        "--keep",
+        metavar="FOLDER",
+        help="make the clone in FOLDER, which is not there yet, and leave it",
+    )
     options = parser.parse_args()
     load = os.getloadavg()[0]
     if load > MOST_LOAD and not options.anyway:
@@ -56,9 +70,16 @@ def main():
     day = datetime.date.today().strftime("%-d %B %Y")
     beside = "beside other work, of a load of %.1f before" % load if load > MOST_LOAD else "alone"
     with open(RESULT, "w") as file:
-        file.write("$ bench/first_build.py   # %s, %d cores of %.1f GHz, %s\n" % (day, cores, rate, beside))
-        file.write("| Minutes | Cores | GHz |\n|---|---|---|\n| %d | %d | %.1f |\n" % (round(minutes), cores, rate))
-    print("%d minutes on %d cores of %.1f GHz; now run tests/docs.py" % (round(minutes), cores, rate))
+        file.write(
+            "$ bench/first_build.py   # %s, %d cores of %.1f GHz, %s\n" % (day, cores, rate, beside)
+        )
+        file.write(
+            "| Minutes | Cores | GHz |\n|---|---|---|\n| %d | %d | %.1f |\n"
+            % (round(minutes), cores, rate)
+        )
+    print(
+        "%d minutes on %d cores of %.1f GHz; now run tests/docs.py" % (round(minutes), cores, rate)
+    )
 
 
 if __name__ == "__main__":

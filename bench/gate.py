@@ -1,11 +1,13 @@
 #!/usr/bin/env python3
 """Tells what the gate costs, crate by crate: bench/gate.py [--markdown] [COMMAND]...
 
-Runs a command, `sh tests/all.sh` unless told otherwise, at the top of the repository, looks at all its processes several times a second, and prints the
-processor seconds (user and system) of each crate's proof, of its tests and of its wrong bodies, and of all else. What a process takes after it was
-looked at last is missing from its crate and stands under what was not seen; the whole is what the system tells of the command and all
-that it waited for. For a run from nothing take a fresh clone, and clear what `rt ci` keeps of what has passed. The times are those of the
-machine at hand, with nothing beside.
+Runs a command, `sh tests/all.sh` unless told otherwise, at the top of the repository, looks at all
+its processes several times a second, and prints the processor seconds (user and system) of each
+crate's proof, of its tests and of its wrong bodies, and of all else. What a process takes after it
+was looked at last is missing from its crate and stands under what was not seen; the whole is what
+the system tells of the command and all that it waited for. For a run from nothing take a fresh
+clone, and clear what `rt ci` keeps of what has passed. The times are those of the machine at hand,
+with nothing beside.
 """
 import argparse
 import os
@@ -41,7 +43,8 @@ def processes():
 
 
 def subject(pid, found, first):
-    """The crate and the kind of work that a process and those that started it are told by; nothing where it is none of the command's."""
+    """The crate and the kind of work that a process and those that started it are told by; nothing
+    where it is none of the command's."""
     crate, kind, is_ours = None, "proof", False
     while pid in found:
         words = text_of("/proc/%d/cmdline" % pid).split("\0")
@@ -68,14 +71,20 @@ class Sampler(threading.Thread):
         while not self.done.wait(0.3):
             found = processes()
             for pid, (_, seconds) in found.items():
-                if pid not in self.seen or self.seen[pid][0] is None or self.seen[pid][0][0] is None:
+                if (
+                    pid not in self.seen
+                    or self.seen[pid][0] is None
+                    or self.seen[pid][0][0] is None
+                ):
                     self.seen[pid] = [subject(pid, found, self.first), seconds]
                 self.seen[pid][1] = max(seconds, self.seen[pid][1])
 
 
 def main():
     parser = argparse.ArgumentParser(description=__doc__.split("\n")[0])
-    parser.add_argument("--markdown", action="store_true", help="as the table of bench/results/gate.txt")
+    parser.add_argument(
+        "--markdown", action="store_true", help="as the table of bench/results/gate.txt"
+    )
     parser.add_argument("command", nargs="*")
     options = parser.parse_args()
     began = time.monotonic()
@@ -99,12 +108,30 @@ def main():
     if options.markdown:
         print("|---" * (1 + len(KINDS)) + "|")
     for crate in sorted(sums, key=lambda one: order.index(one) if one in order else len(order)):
-        print(line % (crate, between.join("%12s" % (round(sums[crate][kind]) or "") for kind in KINDS)))
-    print(line % ("all of these", between.join("%12d" % sum(one[kind] for one in sums.values()) for kind in KINDS)))
+        print(
+            line
+            % (crate, between.join("%12s" % (round(sums[crate][kind]) or "") for kind in KINDS))
+        )
+    print(
+        line
+        % (
+            "all of these",
+            between.join("%12d" % sum(one[kind] for one in sums.values()) for kind in KINDS),
+        )
+    )
     whole = usage.ru_utime + usage.ru_stime
     seen = others + sum(sum(one.values()) for one in sums.values())
     print("checks, cases and runs %d s; not seen %d s" % (others, whole - seen))
-    print("processor time %.1f min (user %.1f, system %.1f), wall %.1f min, status %d" % (whole / 60, usage.ru_utime / 60, usage.ru_stime / 60, (time.monotonic() - began) / 60, os.waitstatus_to_exitcode(status)))
+    print(
+        "processor time %.1f min (user %.1f, system %.1f), wall %.1f min, status %d"
+        % (
+            whole / 60,
+            usage.ru_utime / 60,
+            usage.ru_stime / 60,
+            (time.monotonic() - began) / 60,
+            os.waitstatus_to_exitcode(status),
+        )
+    )
     return os.waitstatus_to_exitcode(status)
 
 

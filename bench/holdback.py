@@ -1,11 +1,14 @@
 #!/usr/bin/env python3
-"""Times mt_holdback and mt_tracklist: bench/holdback.py [--sizes N,N,..] [--places N,N,..] [--keep FOLDER]
+"""Times mt_holdback and mt_tracklist: bench/holdback.py [--sizes N,N,..] [--places N,N,..] [--keep
+FOLDER]
 
-`radio` uses neither crate yet, so this makes a program over both in a folder of its own (a copy of the crates below them, with the work
-that `rt check` kept), which `rt run` proves and builds optimised; the first build takes some minutes. It offers tracks to a hold-back: none
-after another (free), each after the one before (chain), all after the first (fan), in rising, falling and mixed order; then a Remove of 65,535
-tags whose tags come after it; and it puts places at the front of a track list. Prints wall time, peak memory and the growth from one
-size to the next, the best of three. Times are those of the machine at hand: compare ratios of one run only.
+`radio` uses neither crate yet, so this makes a program over both in a folder of its own (a copy of
+the crates below them, with the work that `rt check` kept), which `rt run` proves and builds
+optimised; the first build takes some minutes. It offers tracks to a hold-back: none after another
+(free), each after the one before (chain), all after the first (fan), in rising, falling and mixed
+order; then a Remove of 65,535 tags whose tags come after it; and it puts places at the front of a
+track list. Prints wall time, peak memory and the growth from one size to the next, the best of
+three. Times are those of the machine at hand: compare ratios of one run only.
 """
 import argparse
 import shutil
@@ -17,7 +20,8 @@ USES = ["mt_stamp", "mt_op", "mt_holdback", "mt_tracklist"]
 SHAPES = ["free", "chain", "fan", "tags", "front"]
 ORDERS = ["rising", "falling", "mixed"]
 
-PROGRAM = """//! Offers operations of one shape to a hold-back, or puts places at the front of a track list, for their times.
+PROGRAM = """//! Offers operations to a hold-back, or puts places at the front of a track list:
+//! for `bench/holdback.py` alone.
 #![tactic(auto)]
 
 use mt_holdback::{HoldBack, Waits};
@@ -151,7 +155,10 @@ def table(program, rows):
             words = [program, str(SHAPES.index(shape)), str(ORDERS.index(order)), str(size)]
             seconds, peak, _ = best(words)
             growth = "" if before is None else "%.1f" % (seconds / before)
-            print("| %s | %s | %d | %.3f | %d | %s |" % (shape, order, size, seconds, peak, growth), flush=True)
+            print(
+                "| %s | %s | %d | %.3f | %d | %s |" % (shape, order, size, seconds, peak, growth),
+                flush=True,
+            )
             before = seconds
 
 

@@ -1,13 +1,16 @@
 #!/usr/bin/env python3
-"""Times `radio info`: bench/info.py [--program PATH] [--quick PATH] [--bytes N] [--runs N] [--cues N,N,..]
+"""Times `radio info`: bench/info.py [--program PATH] [--quick PATH] [--bytes N] [--runs N] [--cues
+N,N,..]
 
-Makes a wave file of that many bytes (10^9 unless told otherwise: stereo, 24 bits, 48000 frames a second) and runs the
-optimised program (crates/radio/out/radio), with --quick the build of it for processors with AVX2, and `sha256sum` on it in turn, the best of seven
-each unless told otherwise; prints wall time, its ratio to that of `sha256sum`, and peak memory beside the file's size, none of which has to be held.
-Then files of few samples with many cue points, as many labels and as many lengths, labels and lengths in falling order, each named by the cue point
-that comes last: prints the growth of the time from size to size.
-Times are those of the machine at hand: compare ratios of one run only. Peaks under 20 MiB are this script's own, since a program
-begins with the peak of the process that started it.
+Makes a wave file of that many bytes (10^9 unless told otherwise: stereo, 24 bits, 48000 frames a
+second) and runs the optimised program (crates/radio/out/radio), with --quick the build of it for
+processors with AVX2, and `sha256sum` on it in turn, the best of seven each unless told otherwise;
+prints wall time, its ratio to that of `sha256sum`, and peak memory beside the file's size, none of
+which has to be held. Then files of few samples with many cue points, as many labels and as many
+lengths, labels and lengths in falling order, each named by the cue point that comes last: prints
+the growth of the time from size to size. Times are those of the machine at hand: compare ratios of
+one run only. Peaks under 20 MiB are this script's own, since a program begins with the peak of the
+process that started it.
 """
 import argparse
 import os
@@ -73,7 +76,11 @@ def main():
         print("| bytes | way | seconds | to sha256sum | peak MiB | file MiB |")
         print("|---|---|---|---|---|---|")
         for (name, _), (seconds, peak) in zip(ways, bests):
-            print("| %d | %s | %.2f | %.2f | %.0f | %.0f |" % (size, name, seconds, seconds / bests[-1][0], peak, size / 2**20), flush=True)
+            print(
+                "| %d | %s | %.2f | %.2f | %.0f | %.0f |"
+                % (size, name, seconds, seconds / bests[-1][0], peak, size / 2**20),
+                flush=True,
+            )
         print("\n| cues | bytes | seconds | peak MiB | growth |")
         print("|---|---|---|---|---|")
         before = None
@@ -82,7 +89,11 @@ def main():
             seconds, peak, _ = best([given.program, "info", path])
             growth = "%.1f" % (seconds / before) if before else ""
             before = seconds
-            print("| %d | %d | %.3f | %.0f | %s |" % (count, os.path.getsize(path), seconds, peak, growth), flush=True)
+            print(
+                "| %d | %d | %.3f | %.0f | %s |"
+                % (count, os.path.getsize(path), seconds, peak, growth),
+                flush=True,
+            )
 
 
 if __name__ == "__main__":

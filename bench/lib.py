@@ -19,8 +19,8 @@ def text_of(path):
 
 
 def build(folder, name, source, uses):
-    """Builds a program of one file over some of the repository's libraries in a folder, unless it is
-    there, and returns its path. What earlier checks kept of the libraries is used."""
+    """Builds a program of one file over some of the repository's libraries in a folder, unless it
+    is there, and returns its path. What earlier checks kept of the libraries is used."""
     lines = crate_lines()
     below = [one for one in lines if any(one in crates_below(use, lines) for use in uses)]
     crate = os.path.join(folder, "crates", name)

@@ -1,13 +1,15 @@
 #!/usr/bin/env python3
 """Times the log of mt_opcodec: bench/log.py [--sizes N,N,..] [--only WORD] [--keep FOLDER]
 
-Makes a program over mt_opcodec in a folder of its own (a copy of the crates below it, with the work that `rt check` kept), which `rt run`
-proves and builds optimised; the first build takes some minutes. It adds operations one by one: rising in one replica, in turn over 8 and over
-1,000 replicas, in mixed order over 8, and one for each replica; it writes a log in turn and reads it; it deals operations out to 8 or 64
-logs in turn, and joins those (`join`), or writes each, reads it and joins what was read, as a command does (`merge`); and it joins 8 logs that share no
-replica. `deal` is the making of the logs alone. Prints wall time, peak memory and the growth from one size to the next, the best of
---runs (3), and of what is joined also the time of the joining alone and its growth, the best of as many. Times are those of the machine at hand: compare
-ratios of one run only.
+Makes a program over mt_opcodec in a folder of its own (a copy of the crates below it, with the work
+that `rt check` kept), which `rt run` proves and builds optimised; the first build takes some
+minutes. It adds operations one by one: rising in one replica, in turn over 8 and over 1,000
+replicas, in mixed order over 8, and one for each replica; it writes a log in turn and reads it; it
+deals operations out to 8 or 64 logs in turn, and joins those (`join`), or writes each, reads it and
+joins what was read, as a command does (`merge`); and it joins 8 logs that share no replica. `deal`
+is the making of the logs alone. Prints wall time, peak memory and the growth from one size to the
+next, the best of --runs (3), and of what is joined also the time of the joining alone and its
+growth, the best of as many. Times are those of the machine at hand: compare ratios of one run only.
 """
 import argparse
 import shutil
@@ -17,7 +19,10 @@ import tempfile
 from lib import build, run
 
 USES = ["mt_stamp", "mt_op", "mt_opcodec"]
-SHAPES = ["rising", "turn8", "turn1000", "mixed", "replicas", "read", "deal8", "join8", "merge8", "deal64", "join64", "merge64", "apart8"]
+SHAPES = [
+    "rising", "turn8", "turn1000", "mixed", "replicas", "read", "deal8", "join8", "merge8",
+    "deal64", "join64", "merge64", "apart8",
+]
 
 PROGRAM = """//! Adds operations of one shape to a log, reads them, or joins logs, for their times.
 #![tactic(auto)]
@@ -67,7 +72,8 @@ fn run(rt: &HostRuntime) -> Option<bool> {
 // An operation of a replica.
 fn op(replica: u64, seq: u64) -> Option<Op<Global>> {
     let item = Stamp::new(1, Replica(9), 1).ok()?;
-    let stamp = Stamp::new(seq.saturating_add(1), Replica(u128::from(replica).wrapping_add(10)), seq).ok()?;
+    let own = Replica(u128::from(replica).wrapping_add(10));
+    let stamp = Stamp::new(seq.saturating_add(1), own, seq).ok()?;
     Op::new(stamp, Body::Restore { item }).ok()
 }
 
@@ -167,7 +173,8 @@ fn joined(rt: &HostRuntime, logs: Vec<Log>) -> Option<u64> {
 
 
 def least(program, shape, count, runs):
-    """Seconds, peak MiB and seconds of the joining alone, if any, each the least of so many runs."""
+    """Seconds, peak MiB and seconds of the joining alone, if any, each the least of so many
+    runs."""
     found = None
     for _ in range(runs):
         words = [program, str(SHAPES.index(shape)), str(count)]
@@ -182,12 +189,19 @@ def least(program, shape, count, runs):
 
 def times_of(now, before):
     """A time, and how many times the one before it is."""
-    return "" if now is None else "%.3f" % now, "" if now is None or before is None else "%.1f" % (now / before)
+    return (
+        "" if now is None else "%.3f" % now,
+        "" if now is None or before is None else "%.1f" % (now / before),
+    )
 
 
 def main():
-    parser = argparse.ArgumentParser(description=__doc__, formatter_class=argparse.RawDescriptionHelpFormatter)
-    parser.add_argument("--sizes", default="10048,100096,1000064", help="how many operations, multiples of 64")
+    parser = argparse.ArgumentParser(
+        description=__doc__, formatter_class=argparse.RawDescriptionHelpFormatter
+    )
+    parser.add_argument(
+        "--sizes", default="10048,100096,1000064", help="how many operations, multiples of 64"
+    )
     parser.add_argument("--only", choices=SHAPES)
     parser.add_argument("--runs", type=int, default=3)
     parser.add_argument("--keep", help="a folder for the program, which is used again")
@@ -205,7 +219,16 @@ def main():
                 if shape == "mixed" and size > 200000:
                     continue
                 seconds, peak, joining = least(program, shape, size, args.runs)
-                print("| %s | %d | %s | %s | %d | %s | %s |" % ((shape, size) + times_of(seconds, before) + (peak,) + times_of(joining, joining_before)), flush=True)
+                print(
+                    "| %s | %d | %s | %s | %d | %s | %s |"
+                    % (
+                        (shape, size)
+                        + times_of(seconds, before)
+                        + (peak,)
+                        + times_of(joining, joining_before)
+                    ),
+                    flush=True,
+                )
                 before, joining_before = seconds, joining
     finally:
         if not args.keep:

@@ -1,13 +1,17 @@
 #!/usr/bin/env python3
-"""Times the mix by itself: bench/mix.py [--folder FOLDER] [--seconds N] [--only WORD] [--fades] [--instructions]
+"""Times the mix by itself: bench/mix.py [--folder FOLDER] [--seconds N] [--only WORD] [--fades]
+[--instructions]
 
-Makes a small program over mt_render in a temporary folder (or in FOLDER, where it is kept and used again), with copies of the crates, and
-compiles bench/mix.c beside it (gcc -O3, for the processor that Rattle compiles for). Both read the same session and recording, mix the whole
-programme in blocks of 4,096 samples, and print a number that every sample changes: the two have to be equal. Then both mix it many times
-over, in turn; a run of two turns is taken off, so that neither reading nor hashing counts. The best of five runs of each counts, in processor time.
-Times are those of the machine at hand: compare ratios of one run only. Building takes some minutes the first time.
-With --fades every clip fades in and out over a second, and the C program mixes once more where it divides each sample under a fade in 128 bits.
---instructions counts instead: how many instructions one more turn takes (valgrind's callgrind), for each frame of each sounding track.
+Makes a small program over mt_render in a temporary folder (or in FOLDER, where it is kept and used
+again), with copies of the crates, and compiles bench/mix.c beside it (gcc -O3, for the processor
+that Rattle compiles for). Both read the same session and recording, mix the whole programme in
+blocks of 4,096 samples, and print a number that every sample changes: the two have to be equal.
+Then both mix it many times over, in turn; a run of two turns is taken off, so that neither reading
+nor hashing counts. The best of five runs of each counts, in processor time. Times are those of the
+machine at hand: compare ratios of one run only. Building takes some minutes the first time. With
+--fades every clip fades in and out over a second, and the C program mixes once more where it
+divides each sample under a fade in 128 bits. --instructions counts instead: how many instructions
+one more turn takes (valgrind's callgrind), for each frame of each sounding track.
 """
 import argparse
 import hashlib
@@ -136,7 +140,8 @@ def run(command):
 
 
 def on_top(clips):
-    """The segments of clips (start, end, offset, num, den), each placed after those before it, with the first frame of the clip and its length."""
+    """The segments of clips (start, end, offset, num, den), each placed after those before it, with
+    the first frame of the clip and its length."""
     cuts = sorted({c[0] for c in clips} | {c[1] for c in clips})
     found = []
     for start, end in zip(cuts, cuts[1:]):
@@ -148,15 +153,23 @@ def on_top(clips):
             found[-1][1] = end
         else:
             found.append([start, end, top])
-    return [(start, end, top[2] + start - top[0], top[3], top[4], top[0], top[1] - top[0]) for start, end, top in found]
+    return [
+        (start, end, top[2] + start - top[0], top[3], top[4], top[0], top[1] - top[0])
+        for start, end, top in found
+    ]
 
 
 class Case:
-    """A session in the two programs' forms: tracks of one gain are lists of clips (start, end, offset, num, den), all with fades of so many frames."""
+    """A session in the two programs' forms: tracks of one gain are lists of clips (start, end,
+    offset, num, den), all with fades of so many frames."""
 
     def __init__(self, name, tracks, channels, bits, fade, gain=(1, 1)):
-        self.name, self.tracks, self.channels, self.bits, self.fade, self.gain = name, tracks, channels, bits, fade, gain
-        self.sounding = sum(segment[1] - segment[0] for clips in tracks for segment in on_top(clips))
+        self.name, self.tracks, self.channels, self.bits, self.fade, self.gain = (
+            name, tracks, channels, bits, fade, gain,
+        )
+        self.sounding = sum(
+            segment[1] - segment[0] for clips in tracks for segment in on_top(clips)
+        )
 
     def write(self, folder):
         place = lambda name: os.path.join(folder, name)
@@ -187,7 +200,18 @@ class Case:
                         ops.append(set_fade(own(), clip, self.fade, self.fade))
                 for start, end, offset, num, den, *clip in on_top(clips):
                     gain = Fraction(num * self.gain[0], den * self.gain[1])
-                    print(number, start, end, offset, gain.numerator, gain.denominator, *clip, self.fade, self.fade, file=plan)
+                    print(
+                        number,
+                        start,
+                        end,
+                        offset,
+                        gain.numerator,
+                        gain.denominator,
+                        *clip,
+                        self.fade,
+                        self.fade,
+                        file=plan,
+                    )
         with open(place("log"), "wb") as file:
             file.write(log(ops))
         return place("log"), place("plan"), place("wave")
@@ -199,10 +223,20 @@ def cases(fade):
         for bits in (16, 24):
             for channels in (1, 2):
                 for num, den in ((1, 1), (1, 2), (3, 4), (7, 10)):
-                    name = "%d tracks, %d bits, %s, %d/%d" % (tracks, bits, ("mono", "stereo")[channels - 1], num, den)
-                    yield Case(name, [[(0, frames, 1000 * t, num, den)] for t in range(tracks)], channels, bits, fade)
+                    name = "%d tracks, %d bits, %s, %d/%d" % (
+                        tracks, bits, ("mono", "stereo")[channels - 1], num, den
+                    )
+                    yield Case(
+                        name,
+                        [[(0, frames, 1000 * t, num, den)] for t in range(tracks)],
+                        channels,
+                        bits,
+                        fade,
+                    )
     odd = [[(0, frames, 1000 * t, 65521, 65519)] for t in range(8)]
-    yield Case("8 tracks, 24 bits, mono, 65521/65519 on 40503/65535", odd, 1, 24, fade, (40503, 65535))
+    yield Case(
+        "8 tracks, 24 bits, mono, 65521/65519 on 40503/65535", odd, 1, 24, fade, (40503, 65535)
+    )
     chance = random.Random(17)
     tracks = []
     for _ in range(30):
@@ -215,8 +249,17 @@ def cases(fade):
     yield Case("30 tracks, 2,010 clips, 24 bits, mono", tracks, 1, 24, fade)
     # clips that fade from their first frame to their last, all the time
     for num, den in ((1, 1), (7, 10), (65535, 65534)):
-        clips = [(start, start + 2 * 48000, start % 1000, num, den) for start in range(0, frames, 2 * 48000)]
-        yield Case("8 tracks of clips of 2 seconds, 24 bits, mono, %d/%d" % (num, den), [clips] * 8, 1, 24, fade)
+        clips = [
+            (start, start + 2 * 48000, start % 1000, num, den)
+            for start in range(0, frames, 2 * 48000)
+        ]
+        yield Case(
+            "8 tracks of clips of 2 seconds, 24 bits, mono, %d/%d" % (num, den),
+            [clips] * 8,
+            1,
+            24,
+            fade,
+        )
 
 
 def tell(name, form, figures):
@@ -237,20 +280,30 @@ def main():
         folder = options.folder or scratch
         program, plain = both(folder)
         unit = "instructions a frame and track" if options.instructions else "M frames*tracks/s"
-        print("| Programme | Rattle, %s | C | Ratio |%s" % (unit, " C in 128 bits | Ratio |" if options.fades else ""))
+        print(
+            "| Programme | Rattle, %s | C | Ratio |%s"
+            % (unit, " C in 128 bits | Ratio |" if options.fades else "")
+        )
         print("|---|---|---|---|" + ("---|---|" if options.fades else ""))
         for case in cases(48000 if options.fades else 0):
             if options.only not in case.name:
                 continue
             text, plan, wave = case.write(scratch)
             shape = [str(case.channels), str(case.bits)]
-            ways = [lambda turns: [program, text, wave] + shape + [str(turns)], lambda turns: [plain, plan, wave] + shape + [str(turns)]]
+            ways = [
+                lambda turns: [program, text, wave] + shape + [str(turns)],
+                lambda turns: [plain, plan, wave] + shape + [str(turns)],
+            ]
             if options.fades:
                 ways.append(lambda turns: [plain, plan, wave] + shape + [str(turns), "divided"])
             if len({run(way(1))[1] for way in ways}) != 1:
                 sys.exit("%s: the programs differ" % case.name)
             if options.instructions:
-                tell(case.name, "%.2f", [(instructions(way(3)) - instructions(way(2))) / case.sounding for way in ways])
+                tell(
+                    case.name,
+                    "%.2f",
+                    [(instructions(way(3)) - instructions(way(2))) / case.sounding for way in ways],
+                )
                 continue
             turns = max(2, int(options.seconds * 5e8 / case.sounding / case.channels))
             few, many = [1e9] * len(ways), [1e9] * len(ways)
@@ -258,7 +311,14 @@ def main():
                 for which, way in enumerate(ways):
                     few[which] = min(few[which], run(way(2))[0])
                     many[which] = min(many[which], run(way(turns + 2))[0])
-            tell(case.name, "%.0f", [case.sounding * turns / max(more - less, 1e-9) / 1e6 for less, more in zip(few, many)])
+            tell(
+                case.name,
+                "%.0f",
+                [
+                    case.sounding * turns / max(more - less, 1e-9) / 1e6
+                    for less, more in zip(few, many)
+                ],
+            )
 
 
 if __name__ == "__main__":

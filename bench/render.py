@@ -1,14 +1,20 @@
 #!/usr/bin/env python3
-"""Times `radio render`: bench/render.py [--program PATH] [--quick PATH] [--minutes N,N,..] [--sources N,N,..] [--runs N] [--fades] [--archive]
+"""Times `radio render`: bench/render.py [--program PATH] [--quick PATH] [--minutes N,N,..]
+[--sources N,N,..] [--runs N] [--fades] [--archive]
 
-Makes mono sources of 24 bits at 48,000 frames a second, each on a track of its own from the first frame on, and renders them into 24 bits on one
-channel with the optimised program (crates/radio/out/radio). Beside it in the same run: `radio info` of the same sources, which hashes them one by one
-(reading and hashing is all that grows with a file's samples), sha256sum, the mix alone in plain C (bench/mix.c by gcc -O3, one
-recording in memory on as many tracks, nothing read, hashed or written), and sox, ffmpeg and ecasound mixing the same files where they are installed. With --quick
-the build of the program for processors with AVX2 stands beside it. All take turns; prints wall time (the best of --runs, 3), millions of frames times tracks a second, and peak memory beside the sources' size. radio
-waits until its file is on the disk, and the others do not: with TMPDIR=/dev/shm no disk is measured. With --fades every clip fades in and out over a second, which the other programs are not told.
-With --archive (of --minutes 1, unless told otherwise) it renders four sources that are given alone and that are given among 200, of which the others sound
-nowhere; both files have to be equal. Times are those of the machine at hand: compare ratios of one run only.
+Makes mono sources of 24 bits at 48,000 frames a second, each on a track of its own from the first
+frame on, and renders them into 24 bits on one channel with the optimised program
+(crates/radio/out/radio). Beside it in the same run: `radio info` of the same sources, which hashes
+them one by one (reading and hashing is all that grows with a file's samples), sha256sum, the mix
+alone in plain C (bench/mix.c by gcc -O3, one recording in memory on as many tracks, nothing read,
+hashed or written), and sox, ffmpeg and ecasound mixing the same files where they are installed.
+With --quick the build of the program for processors with AVX2 stands beside it. All take turns;
+prints wall time (the best of --runs, 3), millions of frames times tracks a second, and peak memory
+beside the sources' size. radio waits until its file is on the disk, and the others do not: with
+TMPDIR=/dev/shm no disk is measured. With --fades every clip fades in and out over a second, which
+the other programs are not told. With --archive (of --minutes 1, unless told otherwise) it renders
+four sources that are given alone and that are given among 200, of which the others sound nowhere;
+both files have to be equal. Times are those of the machine at hand: compare ratios of one run only.
 """
 import argparse
 import filecmp
@@ -41,7 +47,8 @@ def best_of(commands, runs=3):
 
 
 def run_in_turn(ways, runs):
-    """The same of each way, which take turns: a machine that is slow for a while is so for all of them."""
+    """The same of each way, which take turns: a machine that is slow for a while is so for all of
+    them."""
     turns = [[run_all(commands) for _, commands in ways] for _ in range(runs)]
     return [(name,) + min(of_one) for (name, _), of_one in zip(ways, zip(*turns))]
 
@@ -61,18 +68,23 @@ def record(folder, minutes, number):
 
 
 def programme(folder, minutes, numbers, fade):
-    """Makes the recordings of these numbers and a log of them, of clips with fades of so many frames."""
+    """Makes the recordings of these numbers and a log of them, of clips with fades of so many
+    frames."""
     ops = []
     for number in numbers:
         track, clip, faded = ((3 * number + one, A, 3 * number + one) for one in (1, 2, 3))
-        ops += [add_track(track, None, "Track"), add_clip(clip, record(folder, minutes, number), track, 0, 0, minutes * 60 * RATE)]
+        ops += [
+            add_track(track, None, "Track"),
+            add_clip(clip, record(folder, minutes, number), track, 0, 0, minutes * 60 * RATE),
+        ]
         ops += [set_fade(faded, clip, fade, fade)] if fade else []
     with open(os.path.join(folder, "log"), "wb") as file:
         file.write(log(ops))
 
 
 def make_archive(folder, minutes, fade):
-    """Makes the recordings of an archive and a log of those that sound, in a process of its own, so that the peak memory of this one stays small."""
+    """Makes the recordings of an archive and a log of those that sound, in a process of its own, so
+    that the peak memory of this one stays small."""
     child = os.fork()
     if child == 0:
         done = 1
@@ -88,7 +100,8 @@ def make_archive(folder, minutes, fade):
 
 
 def from_archive(program, minutes, fade):
-    """Prints what a render of the same recordings takes where they are given alone, and among all of an archive."""
+    """Prints what a render of the same recordings takes where they are given alone, and among all
+    of an archive."""
     with tempfile.TemporaryDirectory() as folder:
         make_archive(folder, minutes, fade)
         path, alone = os.path.join(folder, "log"), None
@@ -100,24 +113,40 @@ def from_archive(program, minutes, fade):
             if not filecmp.cmp(alone[0], out, shallow=False):
                 sys.exit("the files of the two renders differ")
             size = sum(os.path.getsize(one) for one in paths) / 2**20
-            print("| %d | %d | %d | %.3f | %d | %.2f |" % (minutes, len(paths), size, seconds, peak, seconds / alone[1]), flush=True)
+            print(
+                "| %d | %d | %d | %.3f | %d | %.2f |"
+                % (minutes, len(paths), size, seconds, peak, seconds / alone[1]),
+                flush=True,
+            )
 
 
 def mix_in_c(folder, recording, tracks, frames, fade):
-    """Seconds of the plain C program for one mix of a recording on so many tracks, or none where there is no gcc."""
+    """Seconds of the plain C program for one mix of a recording on so many tracks, or none where
+    there is no gcc."""
     if not shutil.which("gcc"):
         return None
     program, plan = os.path.join(folder, "mix"), os.path.join(folder, "plan")
-    subprocess.run(["gcc", "-O3", "-march=x86-64-v2", "-o", program, os.path.join(TOP, "bench", "mix.c")], check=True)
+    subprocess.run(
+        ["gcc", "-O3", "-march=x86-64-v2", "-o", program, os.path.join(TOP, "bench", "mix.c")],
+        check=True,
+    )
     with open(plan, "w") as file:
-        file.write("%d\n" % frames + "".join("%d 0 %d 0 1 1 0 %d %d %d\n" % (track, frames, frames, fade, fade) for track in range(tracks)))
+        file.write(
+            "%d\n" % frames
+            + "".join(
+                "%d 0 %d 0 1 1 0 %d %d %d\n" % (track, frames, frames, fade, fade)
+                for track in range(tracks)
+            )
+        )
     few, many = (best_of([[program, plan, recording, "1", "24", turns]])[0] for turns in ("2", "6"))
     return max(many - few, 1e-9) / 4
 
 
 def renders(options, words):
     """The ways in which radio renders: as each build."""
-    builds = [("radio render", options.program)] + ([("radio render, AVX2", options.quick)] if options.quick else [])
+    builds = [("radio render", options.program)] + (
+        [("radio render, AVX2", options.quick)] if options.quick else []
+    )
     return [(name, [[program] + words]) for name, program in builds]
 
 
@@ -126,9 +155,28 @@ def others(paths, out):
     inputs = [word for path in paths for word in ("-i", path)]
     chains = [word for number, path in enumerate(paths) for word in ("-a:%d" % number, "-i", path)]
     return [
-        ("sox", ["sox", "-D", "-m"] + [word for path in paths for word in ("-v", "1", path)] + ["-b", "24", out]),
-        ("ffmpeg", ["ffmpeg", "-y"] + inputs + ["-filter_complex", "amix=inputs=%d:normalize=0" % len(paths), "-c:a", "pcm_s24le", out]),
-        ("ecasound", ["ecasound", "-q", "-x", "-f:s24_le,1,48000"] + chains + ["-a:all", "-o", out]),
+        (
+            "sox",
+            ["sox", "-D", "-m"]
+            + [word for path in paths for word in ("-v", "1", path)]
+            + ["-b", "24", out],
+        ),
+        (
+            "ffmpeg",
+            ["ffmpeg", "-y"]
+            + inputs
+            + [
+                "-filter_complex",
+                "amix=inputs=%d:normalize=0" % len(paths),
+                "-c:a",
+                "pcm_s24le",
+                out,
+            ],
+        ),
+        (
+            "ecasound",
+            ["ecasound", "-q", "-x", "-f:s24_le,1,48000"] + chains + ["-a:all", "-o", out],
+        ),
     ]
 
 
@@ -143,31 +191,52 @@ def main():
     parser.add_argument("--archive", action="store_true")
     options = parser.parse_args()
     fade = RATE if options.fades else 0
-    lengths = [int(word) for word in (options.minutes or ("1" if options.archive else "1,10")).split(",")]
+    lengths = [
+        int(word) for word in (options.minutes or ("1" if options.archive else "1,10")).split(",")
+    ]
     if options.archive:
-        print("| Minutes | Sources given, of which 4 sound | MiB | Seconds | Peak MiB | To the 4 alone |")
+        print(
+            "| Minutes | Sources given, of which 4 sound | MiB | Seconds | Peak MiB | To the 4 "
+            "alone |"
+        )
         print("|---|---|---|---|---|---|")
         for minutes in lengths:
             from_archive(options.program, minutes, fade)
         return
-    print("| Minutes | Sources | MiB | Way | Seconds | M frames x tracks/s | Peak MiB | To radio info |")
+    print(
+        "| Minutes | Sources | MiB | Way | Seconds | M frames x tracks/s | Peak MiB | To radio "
+        "info |"
+    )
     print("|---|---|---|---|---|---|---|---|")
     for minutes in lengths:
         for sources in (int(word) for word in options.sources.split(",")):
             with tempfile.TemporaryDirectory() as folder:
                 programme(folder, minutes, range(sources), fade)
-                path, paths = os.path.join(folder, "log"), [path_of(folder, number) for number in range(sources)]
+                path, paths = (
+                    os.path.join(folder, "log"),
+                    [path_of(folder, number) for number in range(sources)],
+                )
                 out = os.path.join(folder, "out.wav")
                 ways = [("radio info of each", [[options.program, "info", one] for one in paths])]
-                ways += renders(options, ["render", out, path] + paths) + [("sha256sum", [["sha256sum"] + paths])]
-                ways += [(name, [words]) for name, words in others(paths, out) if shutil.which(name)]
+                ways += renders(options, ["render", out, path] + paths) + [
+                    ("sha256sum", [["sha256sum"] + paths])
+                ]
+                ways += [
+                    (name, [words]) for name, words in others(paths, out) if shutil.which(name)
+                ]
                 figures = run_in_turn(ways, options.runs)
                 in_c = mix_in_c(folder, paths[0], sources, minutes * 60 * RATE, fade)
                 figures += [("the mix in C", in_c, 0)] if in_c else []
                 size = sum(os.path.getsize(one) for one in paths) / 2**20
                 for name, seconds, peak in figures:
                     rate, hashing = minutes * 60 * RATE * sources / seconds / 1e6, figures[0][1]
-                    print("| %d | %d | %d | %s | %.3f | %d | %s | %.2f |" % (minutes, sources, size, name, seconds, rate, peak or "", seconds / hashing))
+                    print(
+                        "| %d | %d | %d | %s | %.3f | %d | %s | %.2f |"
+                        % (
+                            minutes, sources, size, name, seconds, rate, peak or "",
+                            seconds / hashing,
+                        )
+                    )
                 sys.stdout.flush()
 
 

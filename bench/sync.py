@@ -1,27 +1,34 @@
 #!/usr/bin/env python3
-"""Times how editors swap operations: bench/sync.py [--program PATH] [--sizes N,N,..] [--replicas N] [--stream MIB]
-[--frames N,N,..] [--limit SECONDS]
-[--messages N,N,..] [--keep FOLDER]
+"""Times how editors swap operations: bench/sync.py [--program PATH] [--sizes N,N,..] [--replicas N]
+[--stream MIB] [--frames N,N,..] [--limit SECONDS] [--messages N,N,..] [--keep FOLDER]
 
-Makes logs of each size with the mixed history of bench/view.py, and for each a second log that lacks none, 100, a tenth, half or all of the
-operations, the latest ones, as that of an editor who was away. Runs the optimised program (crates/radio/out/radio): `have` of the second
-log, `lack` of the first one for it, `take` of what that gives into the second one, a conversation over loopback (`serve` with the first
-log, `meet` with the second one, from the start of `meet` to the end of both), and `merge` of both logs beside them. All of these give
-the same log, which is compared. Prints wall time, peak memory (of a conversation the greater one of both ends), and the growth of the
-time from size to size. Then:
+Makes logs of each size with the mixed history of bench/view.py, and for each a second log that
+lacks none, 100, a tenth, half or all of the operations, the latest ones, as that of an editor who
+was away. Runs the optimised program (crates/radio/out/radio): `have` of the second log, `lack` of
+the first one for it, `take` of what that gives into the second one, a conversation over loopback
+(`serve` with the first log, `meet` with the second one, from the start of `meet` to the end of
+both), and `merge` of both logs beside them. All of these give the same log, which is compared.
+Prints wall time, peak memory (of a conversation the greater one of both ends), and the growth of
+the time from size to size. Then:
 
-  replicas  a log of one operation of each of --replicas (100,000) replicas: its Have, what it lacks for that Have, and for an empty one
-  frames    `take` of --frames N,N,.. (1000,10000) messages of one operation each, which stand in front of the 100,000 of a log of the same
-            replica, in rising order and in falling order, and all of them in one message beside that
-  stream    `serve` with an empty log, told --stream (128) MiB of messages of operations that it has by then, in pieces of 512 bytes
+  replicas  a log of one operation of each of --replicas (100,000) replicas: its Have, what it lacks
+            for that Have, and for an empty one
+  frames    `take` of --frames N,N,.. (1000,10000) messages of one operation each, which stand in
+            front of the 100,000 of a log of the same replica, in rising order and in falling order,
+            and all of them in one message beside that
+  stream    `serve` with an empty log, told --stream (128) MiB of messages of operations that it has
+            by then, in pieces of 512 bytes
 
-With --messages it makes a program over mt_sync in a folder of its own, as bench/take.py does (the first build takes some minutes; --keep says in which folder, to
-take it up again), and times one message of 100 markers that joins an editor of a log of each of these sizes, in processor time between two gates: markers that follow those
-of their replica in the log, which are taken one by one, and markers that stand before one of their replica, which join as a whole. `--sizes "" --replicas 0
---stream 0 --frames ""` leaves the others out, which need the program.
+With --messages it makes a program over mt_sync in a folder of its own, as bench/take.py does (the
+first build takes some minutes; --keep says in which folder, to take it up again), and times one
+message of 100 markers that joins an editor of a log of each of these sizes, in processor time
+between two gates: markers that follow those of their replica in the log, which are taken one by
+one, and markers that stand before one of their replica, which join as a whole. `--sizes ""
+--replicas 0 --stream 0 --frames ""` leaves the others out, which need the program.
 
-The best of three runs counts, or the first where that took over 10 seconds; a run over --limit (600) seconds is stopped. Times are those
-of the machine at hand: compare ratios of one run only. Peaks under 20 MiB are this script's own.
+The best of three runs counts, or the first where that took over 10 seconds; a run over --limit
+(600) seconds is stopped. Times are those of the machine at hand: compare ratios of one run only.
+Peaks under 20 MiB are this script's own.
 """
 import argparse
 import filecmp
@@ -60,13 +67,14 @@ fn editor_of(rt: &HostRuntime, name: &str) -> Option<Editor> {
     Editor::from_log(rt.alloc(), Replica(10), log).ok()
 }
 
-// Waits at the gate that the next word names: a pipe, until the one that opened its other end closes it.
+// Waits at the gate that the next word names: a pipe, until its other end is closed.
 fn wait(rt: &HostRuntime, words: &mut env::Args) -> Option<()> {
     let gate = words.next()?;
     fs::read(rt, gate.as_str()).ok().map(drop)
 }
 
-// The words: a log, a message, and the names of two gates, between which the log's editor takes the message.
+// The arguments: a log, a message, and the names of two gates. The log's editor takes the message
+// between the gates.
 fn run(rt: &HostRuntime) -> Option<()> {
     let mut words = env::args(rt).ok()?;
     let _program = words.next()?;
@@ -113,7 +121,10 @@ class Run:
         self.alarm.cancel()
         self.child.returncode = status
         if status != 0:
-            sys.exit("%s: status %d after %.1f seconds" % (" ".join(self.command), status, over - self.start))
+            sys.exit(
+                "%s: status %d after %.1f seconds"
+                % (" ".join(self.command), status, over - self.start)
+            )
         return over, usage.ru_maxrss / 1024
 
 
@@ -168,7 +179,9 @@ def time_sizes(given, place):
     print("|---|---|---|---|---|---|---|")
     before = {}
     left, right, have, ops, taken, served_out, met_out, merged = [
-        os.path.join(place, name) for name in ("left", "right", "have", "ops", "taken", "served", "met", "merged")]
+        os.path.join(place, name)
+        for name in ("left", "right", "have", "ops", "taken", "served", "met", "merged")
+    ]
     for size in [int(word) for word in given.sizes.split(",") if word]:
         for share, kept in SHARES:
             write_both(size, kept, left, right)
@@ -177,7 +190,11 @@ def time_sizes(given, place):
                 ("have", right, lambda: radio("have", [right, have])),
                 ("lack", have, lambda: radio("lack", [left, have, ops])),
                 ("take", ops, lambda: radio("take", [right, ops, taken])),
-                ("meet", ops, lambda: met(given.program, given.limit, left, right, [served_out, met_out])),
+                (
+                    "meet",
+                    ops,
+                    lambda: met(given.program, given.limit, left, right, [served_out, met_out]),
+                ),
                 ("merge", left, lambda: radio("merge", [merged, left, right])),
             ]
             for run, file, time_it in told:
@@ -185,7 +202,11 @@ def time_sizes(given, place):
                 case = share, run
                 growth = "%.1f" % (seconds / before[case]) if case in before else ""
                 before[case] = seconds
-                print("| %d | %s | %s | %d | %.3f | %.0f | %s |" % (size, share, run, os.path.getsize(file), seconds, peak, growth), flush=True)
+                print(
+                    "| %d | %s | %s | %d | %.3f | %.0f | %s |"
+                    % (size, share, run, os.path.getsize(file), seconds, peak, growth),
+                    flush=True,
+                )
             for one in (taken, served_out, met_out):
                 if not filecmp.cmp(one, merged, shallow=False):
                     sys.exit("%s is not what `merge` writes" % one)
@@ -195,7 +216,12 @@ def time_replicas(given, place):
     print("\n| run | replicas | bytes | seconds | peak MiB |")
     print("|---|---|---|---|---|")
     many, none, have, ops = [os.path.join(place, name) for name in ("many", "none", "have", "ops")]
-    view.write_logs(lambda: [add_marker((1, replica, 1), replica, "m") for replica in range(1, given.replicas + 1)], [many])
+    view.write_logs(
+        lambda: [
+            add_marker((1, replica, 1), replica, "m") for replica in range(1, given.replicas + 1)
+        ],
+        [many],
+    )
     with open(none, "wb") as file:
         file.write(log([]))
     for run, words, file in (
@@ -205,16 +231,30 @@ def time_replicas(given, place):
         ("lack, all", ["lack", many, have, ops], ops),
     ):
         seconds, peak = timed([given.program] + words, given.limit)
-        print("| %s | %d | %d | %.3f | %.0f |" % (run, given.replicas, os.path.getsize(file), seconds, peak), flush=True)
+        print(
+            "| %s | %d | %d | %.3f | %.0f |"
+            % (run, given.replicas, os.path.getsize(file), seconds, peak),
+            flush=True,
+        )
 
 
 def time_frames(given, place):
-    print("\n| messages of one operation | rising, seconds | falling, seconds | in one message, seconds |")
+    print(
+        "\n"
+        "| messages of one operation | rising, seconds | falling, seconds | in one message, "
+        "seconds |"
+    )
     print("|---|---|---|---|")
     left, message, out = [os.path.join(place, name) for name in ("left", "message", "out")]
     counts = [int(word) for word in given.frames.split(",")]
     first = max(counts) + 1
-    view.write_logs(lambda: [add_marker((number, 1, number), number, "m" * 8) for number in range(first, first + 100000)], [left])
+    view.write_logs(
+        lambda: [
+            add_marker((number, 1, number), number, "m" * 8)
+            for number in range(first, first + 100000)
+        ],
+        [left],
+    )
     for count in counts:
         made = [add_marker((number, 1, number), number, "m" * 8) for number in range(1, count + 1)]
         times = []
@@ -253,24 +293,36 @@ def time_stream(given, place):
     empty, out = os.path.join(place, "empty"), os.path.join(place, "out")
     with open(empty, "wb") as file:
         file.write(log([]))
-    message = exchange.ops([add_marker((number, 1, number), number, "m" * 8) for number in range(1, 1001)])
+    message = exchange.ops(
+        [add_marker((number, 1, number), number, "m" * 8) for number in range(1, 1001)]
+    )
     count = given.stream * 2**20 // len(message)
 
     def once():
         serve, port = served(given.program, given.limit, [empty, out])
         start = time.monotonic()
-        told_in_pieces(port, itertools.chain([exchange.have([])], itertools.repeat(message, count), [exchange.BYE]))
+        told_in_pieces(
+            port,
+            itertools.chain([exchange.have([])], itertools.repeat(message, count), [exchange.BYE]),
+        )
         over, peak = serve.end()
         return over - start, peak
 
     seconds, peak = best(once)
-    print("\n%d messages of 1000 operations, %d MiB in pieces of 512 bytes: %.3f seconds, %.0f MiB" % (count, given.stream, seconds, peak))
+    print(
+        "\n%d messages of 1000 operations, %d MiB in pieces of 512 bytes: %.3f seconds, %.0f MiB"
+        % (count, given.stream, seconds, peak)
+    )
 
 
 def hundred(first):
-    """100 markers of one replica, with the numbers from this one on, whose clocks no operation of the logs has. They stand behind all other
-    markers, so that what is measured is no moving of the session's list of these."""
-    return [add_marker((1000000001 + number, 1, number), 4294967295, "m" * 8) for number in range(first, first + 100)]
+    """100 markers of one replica, with the numbers from this one on, whose clocks no operation of
+    the logs has. They stand behind all other markers, so that what is measured is no moving of the
+    session's list of these."""
+    return [
+        add_marker((1000000001 + number, 1, number), 4294967295, "m" * 8)
+        for number in range(first, first + 100)
+    ]
 
 
 def time_messages(given, place):

@@ -1,35 +1,46 @@
 #!/usr/bin/env python3
-"""Times an editor's take and edit by themselves: bench/take.py [--logs N,N,..] [--shapes NAME,NAME,..] [--programme] [--runs N] [--histories N]
-[--keep FOLDER]
+"""Times an editor's take and edit by themselves: bench/take.py [--logs N,N,..] [--shapes
+NAME,NAME,..] [--programme] [--runs N] [--histories N] [--keep FOLDER]
 
-Makes a program over mt_replica in a folder of its own (a copy of the crates below it, with the work that `rt check` kept), which `rt run` proves
-and builds optimised; the first build takes some minutes. It reads a log, makes an editor of it, and takes the operations of a second log one by one, by rising
-dot, or makes edits. Before the first turn and after the last it stops at a gate, a pipe of a name, where Linux says how much processor time it has
-used, to the nanosecond (/proc/PID/schedstat): so what is told is the time of the turns alone, not a small difference of two large times. The best of three runs
-(--runs) counts, in processor time; growths (blocks of memory that are asked for) and joins are counted, and are the same on each machine. The growths of a
-take hold those of the copy that is taken, and those of an edit that of the title that it is given. Times are
-those of the machine at hand: compare ratios of one run only.
+Makes a program over mt_replica in a folder of its own (a copy of the crates below it, with the work
+that `rt check` kept), which `rt run` proves and builds optimised; the first build takes some
+minutes. It reads a log, makes an editor of it, and takes the operations of a second log one by one,
+by rising dot, or makes edits. Before the first turn and after the last it stops at a gate, a pipe
+of a name, where Linux says how much processor time it has used, to the nanosecond
+(/proc/PID/schedstat): so what is told is the time of the turns alone, not a small difference of two
+large times. The best of three runs (--runs) counts, in processor time; growths (blocks of memory
+that are asked for) and joins are counted, and are the same on each machine. The growths of a take
+hold those of the copy that is taken, and those of an edit that of the title that it is given. Times
+are those of the machine at hand: compare ratios of one run only.
 
-The first table is of logs of bench/view.py's mixed history: making the editor, beside making the session from nothing (what reading takes is taken off both);
-and for one take: a marker at a place drawn at random, a marker in front of all others, and a new title of one marker; and for one edit: a marker made at a
-place drawn at random, and a title made. `anew` is the same turn after which the session is made from nothing of the log, as an editor did that kept none. The
-second table is of shapes:
+The first table is of logs of bench/view.py's mixed history: making the editor, beside making the
+session from nothing (what reading takes is taken off both); and for one take: a marker at a place
+drawn at random, a marker in front of all others, and a new title of one marker; and for one edit: a
+marker made at a place drawn at random, and a title made. `anew` is the same turn after which the
+session is made from nothing of the log, as an editor did that kept none. The second table is of
+shapes:
 
-  ordered      100,000 operations of the mixed history taken one by one by rising stamp, by an editor of the empty log
+  ordered      100,000 operations of the mixed history taken one by one by rising stamp, by an
+               editor of the empty log
   shuffled     the same in random order
-  chain        10,000 tracks, each after the place of the one before, taken from the last to the first, which releases all: the last take alone
-  returns      a track's Remove, a Restore of it, and so on, where the track has 2,000 clips: one take of either
+  chain        10,000 tracks, each after the place of the one before, taken from the last to the
+               first, which releases all: the last take alone
+  returns      a track's Remove, a Restore of it, and so on, where the track has 2,000 clips: one
+               take of either
   gains        a new gain of a clip of a programme (30 tracks, 2,000 clips, 100,000 edits)
   added        a clip added there
   crowd        a new gain of a clip of a track with 100,000 clips
   crowded      a clip added there
   moved        a clip of it moved to another place on it
 
-With --programme a third table tells of bench/view.py's `programme10` (300 tracks, 20,000 clips, 1,000,000 edits: 1,020,300 operations in 84 MB, which take some 20
-seconds to write): making the session from nothing and making the editor, in turn, what reading takes taken off both, and how many times the one the other is.
+With --programme a third table tells of bench/view.py's `programme10` (300 tracks, 20,000 clips,
+1,000,000 edits: 1,020,300 operations in 84 MB, which take some 20 seconds to write): making the
+session from nothing and making the editor, in turn, what reading takes taken off both, and how many
+times the one the other is.
 
-`--logs ""` and `--shapes none` leave the first two out. With --histories it draws so many histories first, as tests/checks/model.py does, lets an editor of
-the empty log take each in an order drawn at random, and compares its session after each take with the one that is made from nothing of its log.
+`--logs ""` and `--shapes none` leave the first two out. With --histories it draws so many histories
+first, as tests/checks/model.py does, lets an editor of the empty log take each in an order drawn at
+random, and compares its session after each take with the one that is made from nothing of its log.
 """
 import argparse
 import errno
@@ -44,7 +55,9 @@ import time
 import view
 from lib import build
 from checks import model
-from formats.logs import add_clip, add_marker, add_track, log, move_clip, remove, restore, retitle, set_gain
+from formats.logs import (
+    add_clip, add_marker, add_track, log, move_clip, remove, restore, retitle, set_gain,
+)
 
 USES = ["test_alloc", "mt_stamp", "mt_op", "mt_opcodec", "mt_sessionview", "mt_replica"]
 
@@ -62,7 +75,11 @@ use std::process::ExitCode;
 use std::{env, fs};
 
 // Takes a copy of an operation of a log.
-fn take_one<A: Allocator + Clone>(editor: &mut Editor<A>, ops: &Log<A>, index: usize) -> Option<()> {
+fn take_one<A: Allocator + Clone>(
+    editor: &mut Editor<A>,
+    ops: &Log<A>,
+    index: usize,
+) -> Option<()> {
     let op = ops.op_at(index)?.try_clone().ok()?;
     match editor.take(op) {
         Ok(_) => Some(()),
@@ -90,7 +107,12 @@ fn history(rt: &HostRuntime, log: &Log, words: env::Args) -> Option<()> {
 }
 
 // Adds a marker, or gives an item a new title.
-fn edit<A: Allocator + Clone>(alloc: &A, editor: &mut Editor<A>, item: &Option<Stamp>, at: u32) -> Option<()> {
+fn edit<A: Allocator + Clone>(
+    alloc: &A,
+    editor: &mut Editor<A>,
+    item: &Option<Stamp>,
+    at: u32,
+) -> Option<()> {
     let title = Title::new(alloc.clone().ok()?, "made").ok()?;
     let change = match item {
         Some(item) => Change::Retitle { item: *item, title },
@@ -102,7 +124,8 @@ fn edit<A: Allocator + Clone>(alloc: &A, editor: &mut Editor<A>, item: &Option<S
     }
 }
 
-// What an editor does: it takes the operations of a log, by rising dot, or makes so many edits: adds markers, or gives an item new titles.
+// What an editor does: it takes the operations of a log in the order of their dots, or makes a
+// number of edits, which add markers or give an item new titles.
 #[derive(Drop)]
 enum Work<A: Allocator = Global> {
     Takes(Log<A>),
@@ -118,10 +141,18 @@ fn turns_of<A: Allocator>(work: &Work<A>) -> usize {
 }
 
 // Does one turn.
-fn work_once<A: Allocator + Clone>(alloc: &A, editor: &mut Editor<A>, work: &Work<A>, turn: usize) -> Option<()> {
+fn work_once<A: Allocator + Clone>(
+    alloc: &A,
+    editor: &mut Editor<A>,
+    work: &Work<A>,
+    turn: usize,
+) -> Option<()> {
     match work {
         Work::Takes(ops) => take_one(editor, ops, turn),
-        Work::Edits { item, .. } => edit(alloc, editor, item, u32::try_from(turn).ok()?.wrapping_mul(2_654_435_761)),
+        Work::Edits { item, .. } => {
+            let at = u32::try_from(turn).ok()?.wrapping_mul(2_654_435_761);
+            edit(alloc, editor, item, at)
+        }
     }
 }
 
@@ -140,7 +171,11 @@ fn work_all<A: Allocator + Clone>(alloc: &A, editor: &mut Editor<A>, work: &Work
 }
 
 // Does all turns, and makes the session anew after each.
-fn work_anew<A: Allocator + Clone>(alloc: &A, editor: &mut Editor<A>, work: &Work<A>) -> Option<()> {
+fn work_anew<A: Allocator + Clone>(
+    alloc: &A,
+    editor: &mut Editor<A>,
+    work: &Work<A>,
+) -> Option<()> {
     for turn in 0..turns_of(work) {
         work_once(alloc, editor, work, turn)?;
         make_anew(alloc, editor)?;
@@ -178,7 +213,13 @@ fn edits<A: Allocator>(item: Option<Stamp>, more: &str) -> Option<Work<A>> {
 }
 
 // The work of these words.
-fn work_of<A: Allocator + Clone>(rt: &HostRuntime, alloc: &A, editor: &Editor<A>, doing: &str, more: &str) -> Option<Work<A>> {
+fn work_of<A: Allocator + Clone>(
+    rt: &HostRuntime,
+    alloc: &A,
+    editor: &Editor<A>,
+    doing: &str,
+    more: &str,
+) -> Option<Work<A>> {
     match doing {
         "takes" => takes(rt, alloc, more),
         "markers" => edits(None, more),
@@ -199,14 +240,20 @@ fn count(rt: &HostRuntime, name: &str, doing: &str, more: &str) -> Option<()> {
     println!(rt; "{growths} {joins}").ok()
 }
 
-// Waits at the gate that the next word names: a pipe, until the one that opened its other end closes it.
+// Waits at the gate that the next word names: a pipe, until its other end is closed.
 fn wait(rt: &HostRuntime, words: &mut env::Args) -> Option<()> {
     let gate = words.next()?;
     fs::read(rt, gate.as_str()).ok().map(drop)
 }
 
 // Does the work between two gates, and makes the session anew after each turn or not.
-fn gated(rt: &HostRuntime, name: &str, doing: &str, anew: bool, words: &mut env::Args) -> Option<()> {
+fn gated(
+    rt: &HostRuntime,
+    name: &str,
+    doing: &str,
+    anew: bool,
+    words: &mut env::Args,
+) -> Option<()> {
     let more = words.next()?;
     let alloc = rt.alloc();
     let mut editor = editor_of(rt, &alloc, name)?;
@@ -240,8 +287,8 @@ fn made(rt: &HostRuntime, name: &str, how: &str, words: &mut env::Args) -> Optio
     }
 }
 
-// The words: a log's name and how it is used; then the indexes of operations, or what is done (takes, markers, titles), with the name of a second
-// log or how many edits, and the names of two gates.
+// The arguments: a log and how it is used; then the indexes of operations, or what is done (takes,
+// markers, titles) with a second log or a number of edits, and the names of two gates.
 fn run(rt: &HostRuntime) -> Option<()> {
     let mut words = env::args(rt).ok()?;
     let _program = words.next()?;
@@ -264,7 +311,8 @@ fn main(rt: HostRuntime) -> ExitCode {
 
 
 def dealt(count, order):
-    """bench/view.py's mixed history as the operations of one replica, whose numbers are this order of its stamps."""
+    """bench/view.py's mixed history as the operations of one replica, whose numbers are this order
+    of its stamps."""
 
     class Ordered(view.History):
         def stamp(self):
@@ -300,7 +348,8 @@ def clip_stamps(ops):
 
 
 def shapes():
-    """Of each shape its name, the log of the editor, what it takes, and how many takes count (the last one alone: none)."""
+    """Of each shape its name, the log of the editor, what it takes, and how many takes count (the
+    last one alone: none)."""
     draw = random.Random(1)
     order = list(range(100000))
     yield "ordered", [], dealt(100000, order), 100000
@@ -308,23 +357,49 @@ def shapes():
     yield "shuffled", [], dealt(100000, order), 100000
     length = 10000
     stamps = [(clock, 1, length + 1 - clock) for clock in range(1, length + 1)]
-    yield "chain", [], [add_track(own, stamps[index - 1] if index else None, "Voice") for index, own in enumerate(stamps)], None
+    yield (
+        "chain",
+        [],
+        [
+            add_track(own, stamps[index - 1] if index else None, "Voice")
+            for index, own in enumerate(stamps)
+        ],
+        None,
+    )
     history = view.History(13)
     track = history.stamp()
     there = [add_track(track, None, "Voice")]
-    there += [add_clip(history.stamp(), view.SOURCE, track, draw.randrange(2**32), 0, 48000) for _ in range(2000)]
+    there += [
+        add_clip(history.stamp(), view.SOURCE, track, draw.randrange(2**32), 0, 48000)
+        for _ in range(2000)
+    ]
     made, tag = [], track
     for turn in range(0, 1000, 2):
         made += [remove(later(turn), track, [tag]), restore(later(turn + 1), track)]
         tag = later(turn + 1)
     yield "returns", there, made, 1000
-    for name, more, log_made in (("gains", "added", view.programme()), ("crowd", "crowded", view.clips())):
+    for name, more, log_made in (
+        ("gains", "added", view.programme()), ("crowd", "crowded", view.clips())
+    ):
         clips = clip_stamps(log_made)
         tracks = [own for own, text in log_made if text[32] == 1]
-        yield name, log_made, [set_gain(later(turn), draw.choice(clips), 1, 2) for turn in range(20000)], 20000
-        adds = [add_clip(later(turn), view.SOURCE, draw.choice(tracks), draw.randrange(3600 * 48000), 0, 480) for turn in range(2000)]
+        yield (
+            name,
+            log_made,
+            [set_gain(later(turn), draw.choice(clips), 1, 2) for turn in range(20000)],
+            20000,
+        )
+        adds = [
+            add_clip(
+                later(turn), view.SOURCE, draw.choice(tracks), draw.randrange(3600 * 48000), 0, 480
+            )
+            for turn in range(2000)
+        ]
         yield more, log_made, adds, 2000
-    moves = [move_clip(later(turn), draw.choice(clips), tracks[0], draw.randrange(2**32)) for turn in range(2000)]
+    moves = [
+        move_clip(later(turn), draw.choice(clips), tracks[0], draw.randrange(2**32))
+        for turn in range(2000)
+    ]
     yield "moved", log_made, moves, 2000
 
 
@@ -338,7 +413,10 @@ def compare(program, count, folder):
             file.write(log([op.text() for op in ops]))
         order = list(range(len(ops)))
         draw.shuffle(order)
-        if subprocess.run([program, name, "history"] + [str(index) for index in order]).returncode != 0:
+        if (
+            subprocess.run([program, name, "history"] + [str(index) for index in order]).returncode
+            != 0
+        ):
             return seed
     return None
 
@@ -361,7 +439,8 @@ def spent(command):
 
 
 def least(commands, runs):
-    """Of each command the processor seconds of the best of so many runs, where all run in turn; of the first where one took over ten."""
+    """Of each command the processor seconds of the best of so many runs, where all run in turn; of
+    the first where one took over ten."""
     best = None
     for _ in range(runs):
         times = [spent(command) for command in commands]
@@ -378,7 +457,8 @@ def state(child):
 
 
 def at_gate(child, gate):
-    """The processor seconds that a program has used when it waits at this gate, which is opened then."""
+    """The processor seconds that a program has used when it waits at this gate, which is opened
+    then."""
     while True:
         try:
             pipe = os.open(gate, os.O_WRONLY | os.O_NONBLOCK)
@@ -398,7 +478,8 @@ def at_gate(child, gate):
 
 
 def between(command, folder, runs):
-    """Processor seconds between the gates of a run, the best of so many; of the first where one took over ten in all."""
+    """Processor seconds between the gates of a run, the best of so many; of the first where one
+    took over ten in all."""
     gates = [os.path.join(folder, name) for name in ("before", "after")]
     best = None
     for _ in range(runs):
@@ -433,11 +514,14 @@ def never_removed(ops):
 
 def cells(spent, growths, joins, turns):
     """Of one turn the microseconds, the growths and the joins."""
-    return ["%.2f" % (1000000 * spent / turns), "%.2f" % (growths / turns), "%.2f" % (joins / turns)]
+    return [
+        "%.2f" % (1000000 * spent / turns), "%.2f" % (growths / turns), "%.2f" % (joins / turns)
+    ]
 
 
 def work_cells(program, folder, runs, doing, turns, anew=0, ops=None):
-    """Edits of the log that lies there, or takes of these operations: one turn, and where the session is made anew after so many turns, one of these."""
+    """Edits of the log that lies there, or takes of these operations: one turn, and where the
+    session is made anew after so many turns, one of these."""
 
     def words(how, number):
         more = written(folder, "more", ops[:number]) if ops else str(number)
@@ -457,7 +541,9 @@ def log_row(program, folder, runs, size):
     item = never_removed(ops_there)
     few, many = (20000, 20000) if size <= 100000 else (2000, 200000)
     anew = max(1, min(100, 1000000 // size))
-    read, scratch, editor = least([[program, there, how] for how in ("read", "scratch", "editor")], runs)
+    read, scratch, editor = least(
+        [[program, there, how] for how in ("read", "scratch", "editor")], runs
+    )
     row = [size, "%.1f" % (1000 * (scratch - read)), "%.1f" % (1000 * (editor - read))]
     row += work_cells(program, folder, runs, "takes", few, anew, markers(random.Random(2), few))
     row += work_cells(program, folder, runs, "takes", few, 0, fronts(few))
@@ -473,7 +559,10 @@ def shape_row(program, folder, runs, name, there, ops, turns):
 
     def taken(some):
         more = written(folder, "more", some)
-        return between([program, there, "work", "takes", more], folder, runs), *counts([program, there, "count", "takes", more])
+        return (
+            between([program, there, "work", "takes", more], folder, runs),
+            *counts([program, there, "count", "takes", more]),
+        )
 
     told = taken(ops)
     if turns is None:
@@ -485,9 +574,17 @@ def programme_row(program, folder, runs):
     """The realistic programme: its session and its editor made."""
     there = os.path.join(folder, "log")
     view.write_logs(view.programme10, [there])
-    read, scratch, editor = least([[program, there, how] for how in ("read", "scratch", "editor")], runs)
+    read, scratch, editor = least(
+        [[program, there, how] for how in ("read", "scratch", "editor")], runs
+    )
     scratch, editor = scratch - read, editor - read
-    return ["programme10", view.count_of(there), "%.1f" % (1000 * scratch), "%.1f" % (1000 * editor), "%.2f" % (editor / scratch)]
+    return [
+        "programme10",
+        view.count_of(there),
+        "%.1f" % (1000 * scratch),
+        "%.1f" % (1000 * editor),
+        "%.2f" % (editor / scratch),
+    ]
 
 
 def print_row(row):
@@ -505,8 +602,12 @@ def tell(options, program, folder):
     counted = ["growths", "joins"]
     if sizes:
         print_head(
-            ["Operations", "From nothing, ms", "An editor, ms", "A marker, us", *counted, "anew, us", "In front, us", *counted, "A title, us", *counted,
-             "anew, us", "A marker made, us", *counted, "A title made, us", *counted, "anew, us"])
+            [
+                "Operations", "From nothing, ms", "An editor, ms", "A marker, us", *counted,
+                "anew, us", "In front, us", *counted, "A title, us", *counted, "anew, us",
+                "A marker made, us", *counted, "A title made, us", *counted, "anew, us",
+            ]
+        )
     for size in sizes:
         print_row(log_row(program, folder, options.runs, size))
     if options.shapes != "none":
@@ -515,7 +616,9 @@ def tell(options, program, folder):
             if not options.shapes or name in options.shapes.split(","):
                 print_row(shape_row(program, folder, options.runs, name, there, ops, turns))
     if options.programme:
-        print_head(["Log", "Operations", "From nothing, ms", "An editor, ms", "An editor / from nothing"])
+        print_head(
+            ["Log", "Operations", "From nothing, ms", "An editor, ms", "An editor / from nothing"]
+        )
         print_row(programme_row(program, folder, options.runs))
 
 
@@ -523,7 +626,9 @@ def main():
     parser = argparse.ArgumentParser()
     parser.add_argument("--logs", default="1000,10000,100000,1000000")
     parser.add_argument("--shapes", help="names, or none", default="")
-    parser.add_argument("--programme", action="store_true", help="also the editor of bench/view.py's programme10")
+    parser.add_argument(
+        "--programme", action="store_true", help="also the editor of bench/view.py's programme10"
+    )
     parser.add_argument("--runs", type=int, default=3, help="of how many runs the best counts")
     parser.add_argument("--histories", type=int, default=0)
     parser.add_argument("--keep", help="the folder to build in, which is kept")
@@ -536,7 +641,11 @@ def main():
             differs = compare(program, options.histories, folder)
             if differs is not None:
                 sys.exit("history %d: the session is not that of its log" % differs)
-            print("%d histories: after each take the session is the one that is made from nothing" % options.histories, flush=True)
+            print(
+                "%d histories: after each take the session is the one that is made from nothing"
+                % options.histories,
+                flush=True,
+            )
         tell(options, program, folder)
     finally:
         if not options.keep:

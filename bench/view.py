@@ -1,17 +1,21 @@
 #!/usr/bin/env python3
-"""Times `radio view` and `radio merge`: bench/view.py [--program PATH] [--against PATH] [--runs N] [--sizes N,N,..] [--parts N] [--shapes NAME,NAME,..]
-[--limit SECONDS] [--instructions] [--commands]
+"""Times `radio view` and `radio merge`: bench/view.py [--program PATH] [--against PATH] [--runs N]
+[--sizes N,N,..] [--parts N] [--shapes NAME,NAME,..] [--limit SECONDS] [--instructions] [--commands]
 
-Makes logs of each size by six replicas. Of a hundred operations some 40 add markers, 25 retitle and 20 move a marker
-of any replica, 10 remove one by all its tags and 5 restore one, mostly one that is removed; and of those that name a marker
-so many name one that is in no log that one operation in a hundred is held. Runs the optimised program (crates/radio/out/radio) on the one
-log, and on the same set cut into eight logs whose dots interleave, which it also merges, and prints wall time, peak memory, operations
-a second, and the growth of the time from size to size. Then it runs the program on sets of a bad shape, each in one log:
+Makes logs of each size by six replicas. Of a hundred operations some 40 add markers, 25 retitle and
+20 move a marker of any replica, 10 remove one by all its tags and 5 restore one, mostly one that is
+removed; and of those that name a marker so many name one that is in no log that one operation in a
+hundred is held. Runs the optimised program (crates/radio/out/radio) on the one log, and on the same
+set cut into eight logs whose dots interleave, which it also merges, and prints wall time, peak
+memory, operations a second, and the growth of the time from size to size. Then it runs the program
+on sets of a bad shape, each in one log:
 
   tags         a marker with 65,535 tags, removed by one operation
-  turns        a marker removed and restored 100,000 times in turn, each Remove listing the one tag that is live
+  turns        a marker removed and restored 100,000 times in turn, each Remove listing the one tag
+               that is live
   overlaps     1,000 Removes of one marker, each listing the same 1,000 Restores
-  thousandths  1,000,000 Restores of one marker and 1,000 Removes, each listing every thousandth of them from another on
+  thousandths  1,000,000 Restores of one marker and 1,000 Removes, each listing every thousandth of
+               them from another on
   moves        100,000 moves of one marker
   wide         100,000 tracks, each after the place of the first
   deep         100,000 tracks, each after the place of the one before
@@ -22,11 +26,14 @@ a second, and the growth of the time from size to size. Then it runs the program
   programme    30 tracks and 2,000 clips with 100,000 edits of them by six editors
   programme10  300 tracks and 20,000 clips with 1,000,000 edits
 
-The best of --runs (3) counts, or the first where that took over 30 seconds; a run over --limit (600) seconds is stopped. With --against another
-program, as that of an earlier state, takes turns with the first one, and each row has its seconds, its peak and the ratio of the times as well.
---shapes says which shapes (`none`: none), --commands runs in place of all this the commands that tell of a log, `diff` with a log that lacks a tenth, each beside `view` of the same. --instructions also counts instructions by valgrind, where it is installed. Times are
-those of the machine at hand: compare ratios of one run only. Peaks under 20 MiB are this script's own, since a program begins with
-the peak of the process that started it.
+The best of --runs (3) counts, or the first where that took over 30 seconds; a run over --limit
+(600) seconds is stopped. With --against another program, as that of an earlier state, takes turns
+with the first one, and each row has its seconds, its peak and the ratio of the times as well.
+--shapes says which shapes (`none`: none), --commands runs in place of all this the commands that
+tell of a log, `diff` with a log that lacks a tenth, each beside `view` of the same. --instructions
+also counts instructions by valgrind, where it is installed. Times are those of the machine at hand:
+compare ratios of one run only. Peaks under 20 MiB are this script's own, since a program begins
+with the peak of the process that started it.
 """
 import argparse
 import os
@@ -40,8 +47,9 @@ import traceback
 
 from lib import RADIO, instructions
 from formats.logs import (
-    add_clip, add_marker, add_track, log, move_clip, move_marker, move_track, remove, restore, retitle, set_fade, set_gain, set_marker_length,
-    set_mute, trim_clip)
+    add_clip, add_marker, add_track, log, move_clip, move_marker, move_track, remove, restore,
+    retitle, set_fade, set_gain, set_marker_length, set_mute, trim_clip,
+)
 
 REPLICAS = 6
 
@@ -203,7 +211,10 @@ def clips():
     history = History(10)
     track = history.stamp()
     made = [add_track(track, None, "track")]
-    return made + [add_clip(history.stamp(), SOURCE, track, int(history.choice.random() * 2**32), 0, 48000) for _ in range(100000)]
+    return made + [
+        add_clip(history.stamp(), SOURCE, track, int(history.choice.random() * 2**32), 0, 48000)
+        for _ in range(100000)
+    ]
 
 
 def spread():
@@ -217,8 +228,9 @@ def spread():
 
 
 def programme(tracks=30, clips=2000, edits=100000):
-    """An hour's programme: of a hundred edits some 44 move or trim a clip, 6 let one fade, 35 set a gain or a mute, 8 remove or restore a
-    clip, 5 retitle or move a track, and 2 add, move or lengthen a marker."""
+    """An hour's programme: of a hundred edits some 44 move or trim a clip, 6 let one fade, 35 set a
+    gain or a mute, 8 remove or restore a clip, 5 retitle or move a track, and 2 add, move or
+    lengthen a marker."""
     history = History(12)
     draw = history.choice.random
     hour = 3600 * 48000
@@ -234,7 +246,16 @@ def programme(tracks=30, clips=2000, edits=100000):
         places.append(own)
     for _ in range(clips):
         own = history.stamp()
-        made.append(add_clip(own, SOURCE, one_of(track_names), int(draw() * hour), int(draw() * hour), 1 + int(draw() * 480000)))
+        made.append(
+            add_clip(
+                own,
+                SOURCE,
+                one_of(track_names),
+                int(draw() * hour),
+                int(draw() * hour),
+                1 + int(draw() * 480000),
+            )
+        )
         clip_names.append(own)
         tags[own] = [own]
     for _ in range(edits):
@@ -243,13 +264,21 @@ def programme(tracks=30, clips=2000, edits=100000):
         if kind < 30:
             made.append(move_clip(own, one_of(clip_names), one_of(track_names), int(draw() * hour)))
         elif kind < 44:
-            made.append(trim_clip(own, one_of(clip_names), int(draw() * hour), 1 + int(draw() * 480000)))
+            made.append(
+                trim_clip(own, one_of(clip_names), int(draw() * hour), 1 + int(draw() * 480000))
+            )
         elif kind < 50:
             made.append(set_fade(own, one_of(clip_names), int(draw() * 96000), int(draw() * 96000)))
         elif kind < 75:
-            made.append(set_gain(own, one_of(clip_names if draw() < 0.8 else track_names), int(draw() * 256), 256))
+            made.append(
+                set_gain(
+                    own, one_of(clip_names if draw() < 0.8 else track_names), int(draw() * 256), 256
+                )
+            )
         elif kind < 85:
-            made.append(set_mute(own, one_of(clip_names if draw() < 0.8 else track_names), int(draw() * 2)))
+            made.append(
+                set_mute(own, one_of(clip_names if draw() < 0.8 else track_names), int(draw() * 2))
+            )
         elif kind < 89:
             clip = one_of(clip_names)
             made.append(remove(own, clip, tags[clip]))
@@ -277,8 +306,10 @@ def programme10():
 
 
 SHAPES = {
-    "tags": tags, "turns": turns, "overlaps": overlaps, "thousandths": thousandths, "moves": moves, "wide": wide, "deep": deep, "turned": turned,
-    "placings": placings, "clips": clips, "spread": spread, "programme": programme, "programme10": programme10}
+    "tags": tags, "turns": turns, "overlaps": overlaps, "thousandths": thousandths, "moves": moves,
+    "wide": wide, "deep": deep, "turned": turned, "placings": placings, "clips": clips,
+    "spread": spread, "programme": programme, "programme10": programme10,
+}
 
 
 def run(command, limit):
@@ -313,7 +344,8 @@ def programs(given):
 
 
 def beside(told):
-    """The further columns of a row: the other program's seconds and peak, and what the first one takes of its time."""
+    """The further columns of a row: the other program's seconds and peak, and what the first one
+    takes of its time."""
     if len(told) < 2:
         return ""
     if None in told:
@@ -326,8 +358,8 @@ def columns(given):
 
 
 def write_logs(make, paths):
-    """Writes what `make` makes, dealt out in turn, into these logs. In a process of its own: a program that is run from here
-    begins with the peak memory of this process."""
+    """Writes what `make` makes, dealt out in turn, into these logs. In a process of its own: a
+    program that is run from here begins with the peak memory of this process."""
     child = os.fork()
     if child == 0:
         try:
@@ -351,32 +383,58 @@ def count_of(path):
 
 def time_sizes(given, place):
     more = columns(given)
-    print("| operations | command | logs | bytes | seconds | peak MiB | operations/s | growth |" + more[0])
+    print(
+        "| operations | command | logs | bytes | seconds | peak MiB | operations/s | growth |"
+        + more[0]
+    )
     print("|---|---|---|---|---|---|---|---|" + more[1])
     before = {}
-    one, parts = [os.path.join(place, "one")], [os.path.join(place, "part%d" % part) for part in range(given.parts)]
+    one, parts = (
+        [os.path.join(place, "one")],
+        [os.path.join(place, "part%d" % part) for part in range(given.parts)],
+    )
     for size in [int(word) for word in given.sizes.split(",") if word]:
         for files in (one, parts):
             write_logs(lambda: operations(size), files)
-        for words, files in ((["view"], one), (["view"], parts), (["merge", os.path.join(place, "out")], parts)):
+        for words, files in (
+            (["view"], one), (["view"], parts), (["merge", os.path.join(place, "out")], parts)
+        ):
             command = words + files
             all_told = best([[program] + command for program in programs(given)], given)
             told = all_told[0]
             case = words[0], len(files)
             length = sum(os.path.getsize(file) for file in files)
             if told is None:
-                print("| %d | %s | %d | %d | over %d | | | |" % ((size,) + case + (length, given.limit)) + beside(all_told), flush=True)
+                print(
+                    "| %d | %s | %d | %d | over %d | | | |"
+                    % ((size,) + case + (length, given.limit))
+                    + beside(all_told),
+                    flush=True,
+                )
                 continue
             seconds, peak = told
             growth = "%.1f" % (seconds / before[case]) if case in before else ""
             before[case] = seconds
-            print("| %d | %s | %d | %d | %.3f | %.0f | %.0f | %s |" % ((size,) + case + (length, seconds, peak, size / seconds, growth)) + beside(all_told), flush=True)
+            print(
+                "| %d | %s | %d | %d | %.3f | %.0f | %.0f | %s |"
+                % ((size,) + case + (length, seconds, peak, size / seconds, growth))
+                + beside(all_told),
+                flush=True,
+            )
             if given.instructions and size <= 100000:
-                print("instructions: " + ", ".join(str(instructions([program] + command)) for program in programs(given)), flush=True)
+                print(
+                    "instructions: " + ", ".join(
+                        str(instructions([program] + command)) for program in programs(given)
+                    ),
+                    flush=True,
+                )
 
 
 # what tells of a log: `diff` of one that lacks a tenth
-TELLING = ("view", "view --time", "view --json", "log", "log --time", "log --json", "timeline", "timeline --svg", "find", "diff", "diff --fields", "diff --json")
+TELLING = (
+    "view", "view --time", "view --json", "log", "log --time", "log --json", "timeline",
+    "timeline --svg", "find", "diff", "diff --fields", "diff --json",
+)
 
 
 def command_of(telling, whole, lacking):
@@ -392,9 +450,15 @@ def time_commands(given, place):
     for size in [int(word) for word in given.sizes.split(",") if word]:
         write_logs(lambda: operations(size), [whole])
         write_logs(lambda: operations(size)[: size * 9 // 10], [lacking])
-        told = best([[given.program] + command_of(telling, whole, lacking) for telling in TELLING], given)
+        told = best(
+            [[given.program] + command_of(telling, whole, lacking) for telling in TELLING], given
+        )
         for telling, (seconds, peak) in zip(TELLING, told):
-            print("| %d | %s | %.3f | %.0f | %.2f |" % (size, telling, seconds, peak, seconds / told[0][0]), flush=True)
+            print(
+                "| %d | %s | %.3f | %.0f | %.2f |"
+                % (size, telling, seconds, peak, seconds / told[0][0]),
+                flush=True,
+            )
 
 
 def time_shapes(given, place, names):
@@ -406,7 +470,11 @@ def time_shapes(given, place, names):
         write_logs(SHAPES[shape], [path])
         told = best([[program, "view", path] for program in programs(given)], given)
         shown = "over %d | " % given.limit if told[0] is None else "%.3f | %.0f" % told[0]
-        print("| %s | %d | %d | %s |" % (shape, count_of(path), os.path.getsize(path), shown) + beside(told), flush=True)
+        print(
+            "| %s | %d | %d | %s |" % (shape, count_of(path), os.path.getsize(path), shown)
+            + beside(told),
+            flush=True,
+        )
 
 
 def main():

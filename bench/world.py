@@ -1,14 +1,19 @@
 #!/usr/bin/env python3
 """Times worlds of editors: bench/world.py [--events N,N,..] [--runs N] [--program PROGRAM]
 
-Runs crates/test_world/out/test_world (make it by `rt run` in its folder) over lists of events, from a few to many, and tells the processor time of a run, the best of
-three (--runs), and how many times the time of a list of half as many events it is: n log n is a little over 2. Reading the list and printing the world are in it, and grow as the list. Times are those of the
-machine at hand: compare ratios of one run only. The lists:
+Runs crates/test_world/out/test_world (make it by `rt run` in its folder) over lists of events, from
+a few to many, and tells the processor time of a run, the best of three (--runs), and how many times
+the time of a list of half as many events it is: n log n is a little over 2. Reading the list and
+printing the world are in it, and grow as the list. Times are those of the machine at hand: compare
+ratios of one run only. The lists:
 
   works     one editor makes markers, and saves after each
-  swaps     two editors make markers and save after each, and each takes at once what the other has sent
-  repeats   one editor makes markers and saves after each, and another takes each three times and saves once it has them all
-  hundreds  one editor makes markers and saves once; another takes them by the hundred, each hundred from the last to the first, and saves after each hundred
+  swaps     two editors make markers and save after each, and each takes at once what the other has
+            sent
+  repeats   one editor makes markers and saves after each, and another takes each three times and
+            saves once it has them all
+  hundreds  one editor makes markers and saves once; another takes them by the hundred, each hundred
+            from the last to the first, and saves after each hundred
   retries   one editor makes a marker and saves, and then saves again and again, which sends nothing
 """
 import argparse
@@ -26,7 +31,8 @@ EDITORS = ",".join("editor %s" % uuid.UUID(int=name) for name in (10, 11))
 
 
 def edit(editor, number):
-    """A marker behind all others, so that the session moves none for it: the stamp does not count."""
+    """A marker behind all others, so that the session moves none for it: the stamp does not
+    count."""
     return "edit %d %s" % (editor, add_marker((1, 1, 1), number, "made")[1].hex())
 
 
@@ -87,8 +93,16 @@ def main():
     for list_of in (works, swaps, repeats, hundreds, retries):
         last = None
         for events in map(int, options.events.split(",")):
-            time = seconds(options.program, (",".join([EDITORS, *list_of(events)]) + "\n").encode(), options.runs)
-            print("| %s | %d | %.3f | %s |" % (list_of.__name__, events, time, "%.2f" % (time / last) if last else ""), flush=True)
+            time = seconds(
+                options.program,
+                (",".join([EDITORS, *list_of(events)]) + "\n").encode(),
+                options.runs,
+            )
+            print(
+                "| %s | %d | %.3f | %s |"
+                % (list_of.__name__, events, time, "%.2f" % (time / last) if last else ""),
+                flush=True,
+            )
             last = time
     return 0
 

@@ -1,5 +1,6 @@
 #!/bin/sh
-# Makes the logs of this folder anew in the folder at hand, from the scripts that lie beside it: sh make.sh PROGRAM
+# Makes the example logs in the current folder, from the scripts next to this file:
+# sh make.sh PROGRAM
 set -e
 radio=$1
 scripts=$(cd "$(dirname "$0")" && pwd)

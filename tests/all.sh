@@ -1,6 +1,6 @@
 #!/bin/sh
-# Everything that has to pass: the pages and the record, each proof from nothing, the wrong bodies, the
-# tests, the stored run and the command line. What is quick comes first.
+# The gate: everything that has to pass. Quick checks run first, then the proofs from nothing, the
+# tests, the stored run, the checks of the built program, and the wrong bodies.
 set -e
 cd "$(dirname "$0")/.."
 if ! python3 -c 'import sys; sys.exit(sys.version_info < (3, 9))' 2> /dev/null; then
@@ -12,6 +12,7 @@ python3 tests/checks/case_texts.py
 python3 tests/make_cases.py --check
 python3 tests/docs.py --check
 python3 tests/checks/prose.py
+python3 tests/checks/lines.py
 python3 tests/checks/declared.py
 python3 tests/checks/record.py
 python3 tests/checks/rows.py

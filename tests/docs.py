@@ -1,20 +1,21 @@
 #!/usr/bin/env python3
-"""Writes the generated parts of the documents, or compares them with --check: tests/docs.py [--check]
+"""Writes the generated parts of the documents, or compares them with --check: tests/docs.py
+[--check]
 
-A part lies between `<!-- generated: NAME -->` and `<!-- end -->` in README.md, CONTRIBUTING.md or a page of docs.
-What it says is read from the code, crates.txt, tests/all.sh and bench/results:
+A part lies between `<!-- generated: NAME -->` and `<!-- end -->` in README.md, CONTRIBUTING.md or a
+page of docs. It is made from the code, crates.txt, tests/all.sh and bench/results:
 
   command NAME   the words of a command, from its WORDS in src/commands of mt_cli
   options        the options that several commands share, from the same files
-  errors         the refusals, from refusals.rt of mt_cli; `advice N..` what to do about some of them
+  errors         the errors, from refusals.rt of mt_cli; `advice N..` what to do about some
   crates ROOM    the crates of a room, from crates.txt and ROOMS of pages/crates.py
   laws           the functions of each `laws` module with the first sentence of their doc comments
-  checks         what tests/all.sh runs, and the checks that it does not run, from their first lines
+  checks         the checks that tests/all.sh runs, and the others, from their first lines
   gate, first-build, aims, data, view, render   from bench/results
 
-It fails where a page has an unknown part, where a command has no part, where a crate of crates.txt has no room, and where
-a page names a law, a method (`Type::method`) or a file of code that is not there. With --check it writes nothing, and fails
-on a part that differs.
+It fails if a page has an unknown part, if a command has no part, if a crate of crates.txt has no
+room, and if a page names a law, a method (`Type::method`) or a file of code that does not exist.
+With --check it writes nothing, and fails on a part that differs.
 """
 import os
 import re
@@ -57,7 +58,8 @@ def part(name):
 
 
 def written(text):
-    """The text of a page with its generated parts; one that begins on the line of its mark is part of a line."""
+    """The text of a page with its generated parts; a part that begins on the line of its mark is
+    part of a line."""
     def one(place):
         made = part(place.group(1))
         made = "\n%s\n" % made if place.group(2).startswith("\n") else made
@@ -67,7 +69,7 @@ def written(text):
 
 
 def part_faults(texts):
-    """What the pages lack."""
+    """The parts that the pages lack."""
     parts = [name for text in texts.values() for name, _ in PART.findall(text)]
     for name in commands.commands()[0]:
         if "command " + name not in parts:
@@ -81,23 +83,47 @@ def part_faults(texts):
 
 
 def definitions(crate):
-    return {os.path.basename(path) for path in files_of("crates/%s/specs/**/*.antt" % crate) + files_of("crates/%s/proofs/**/*.antt" % crate)}
+    return {
+        os.path.basename(path)
+        for path in files_of("crates/%s/specs/**/*.antt" % crate) + files_of(
+            "crates/%s/proofs/**/*.antt" % crate
+        )
+    }
 
 
 def name_faults(texts):
-    """The laws, files and methods that the pages name and that are not there, and definitions that are not in the crate named before them."""
-    laws_there = {"%s::laws::%s" % (crate, name) for crate, own in crates.laws_of_code().items() for name in own} | COMING
+    """The laws, files and methods that the pages name and that do not exist, and definitions that
+    are not in the crate named before them."""
+    laws_there = (
+        {
+            "%s::laws::%s" % (crate, name)
+            for crate, own in crates.laws_of_code().items()
+            for name in own
+        }
+        | COMING
+    )
     sources = files_of("crates/*/src/**/*.rt")
-    files = {os.path.basename(path) for path in sources + files_of("tests/**/*.py") + files_of("bench/*")}
+    files = {
+        os.path.basename(path) for path in sources + files_of("tests/**/*.py") + files_of("bench/*")
+    }
     files |= definitions("*")
     functions = set(re.findall(r"\bfn (\w+)", " ".join(map(text_of, sources))))
     for page, text in texts.items():
-        code = " ".join(re.findall(r"`([^`]*)`", re.sub(r"^```.*?^```$", "", text, flags=re.M | re.S)))
+        code = " ".join(
+            re.findall(r"`([^`]*)`", re.sub(r"^```.*?^```$", "", text, flags=re.M | re.S))
+        )
         names = set(re.findall(r"(?:mt|text)_\w+::laws::\w+", text)) - laws_there
         names |= set(re.findall(r"\b\w+\.(?:rt|antt|py)\b", code)) - files
-        names |= {"%s::%s" % pair for pair in re.findall(r"\b([A-Z]\w+)::([a-z]\w+)", code) if pair[1] not in functions}
+        names |= {
+            "%s::%s" % pair
+            for pair in re.findall(r"\b([A-Z]\w+)::([a-z]\w+)", code)
+            if pair[1] not in functions
+        }
         for crate, listed in re.findall(r"((?:mt|text)_\w+)((?:,?\s+`\w+\.antt`)+)", text):
-            names |= {"%s of %s" % (name, crate) for name in set(re.findall(r"\w+\.antt", listed)) - definitions(crate)}
+            names |= {
+                "%s of %s" % (name, crate)
+                for name in set(re.findall(r"\w+\.antt", listed)) - definitions(crate)
+            }
         for name in sorted(names):
             yield "%s names %s, which is not there" % (page, name)
 

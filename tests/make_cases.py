@@ -1,10 +1,11 @@
 #!/usr/bin/env python3
 """Writes tests/cases, or compares them with --check: python3 tests/make_cases.py [--check]
 
-`subjects` has the cases, written by hand, in a file for each subject, which makes them when it is
-imported (subjects/case.py). Only the lines of `radio log` are worked out, from the bytes of the
+`subjects` has the cases, written by hand, in a file for each subject; importing a file makes its
+cases (subjects/case.py). Only the lines of `radio log` are worked out, from the bytes of the
 operations (formats/log_text.py). Nothing here runs the program. With --check it writes nothing, and
-fails if a file in tests/cases differs from what the subjects make."""
+fails if a file in tests/cases differs from the cases of the subjects.
+"""
 import importlib
 import os
 import sys
@@ -14,7 +15,7 @@ sys.path.insert(0, os.path.dirname(os.path.abspath(__file__)))
 from formats.case_text import ENDING, FOLDER, write_cases
 from subjects.case import MADE
 
-# a subject is after those that it uses
+# a subject comes after those that it uses
 SUBJECTS = """
 markers tracks logs merges pulls waves renders sources finds listings diffs timelines pictures lays
 reverts warnings command_lines edits forms exchanges parts names causes refusals
@@ -22,7 +23,7 @@ reverts warnings command_lines edits forms exchanges parts names causes refusals
 
 
 def read_subjects():
-    """Makes all cases, and gives the names of the subjects' constants by their bytes."""
+    """Makes all cases, and returns the names of the subjects' constants by their bytes."""
     names = {}
     for subject in ["case", *SUBJECTS]:
         if subject != "case" and "subjects." + subject in sys.modules:
@@ -52,7 +53,7 @@ def first_difference(here, wanted):
 
 
 def faults(wanted):
-    """What differs in the folder from these texts."""
+    """The differences between the folder and these texts."""
     for name in sorted({*wanted, *os.listdir(FOLDER)}):
         path = os.path.join(FOLDER, name)
         if name not in wanted:

@@ -1,8 +1,9 @@
 #!/usr/bin/env python3
 """Writes the recordings of examples/: python3 tests/make_sounds.py
 
-`jingle.wav`, three bells and their chord, and `voice.wav`, five vowels by a synthesiser of three formants, each 16 bits on one
-channel at 48,000 frames a second. Whole numbers alone, so that every machine writes the same bytes.
+`jingle.wav` has three bells and their chord, and `voice.wav` has five vowels by a synthesiser with
+three formants. Each has 16 bits on one channel, at 48,000 frames per second. All numbers are
+integers, so every machine writes the same bytes.
 """
 import os
 import sys
@@ -32,7 +33,7 @@ SINES = sines(4096)
 
 
 def bell(out, start, hertz, frames, loudness):
-    """Adds a tone with two overtones that dies away, a half each 4,800 frames."""
+    """Adds a tone with two overtones that fades, by half every 4,800 frames."""
     for index in range(frames):
         fading = ((9600 - index % 4800) << 16) // 9600 >> index // 4800
         for overtone, share in ((1, 8), (2, 3), (5, 1)):
@@ -50,7 +51,8 @@ def jingle():
 
 
 def resonated(samples, hertz, width):
-    """The samples through a resonator of this frequency and bandwidth in hertz, scaled to its gain."""
+    """The samples through a resonator of this frequency and bandwidth in hertz, scaled to its
+    gain."""
     around = SINES[(hertz * 4096 // RATE + 1024) % 4096]
     radius = ONE - ONE * 3 * width // RATE
     first, second = 2 * radius * around // ONE, -radius * radius // ONE
@@ -64,12 +66,16 @@ def resonated(samples, hertz, width):
 
 
 def voice():
-    vowels = [(730, 1090, 2440), (530, 1840, 2480), (270, 2290, 3010), (570, 840, 2410), (300, 870, 2240)]
+    vowels = [
+        (730, 1090, 2440), (530, 1840, 2480), (270, 2290, 3010), (570, 840, 2410), (300, 870, 2240)
+    ]
     spoken = []
     for number, formants in enumerate(vowels):
         frames = 18000
         period = 400 + 12 * number
-        pulses = [1000000 * (index < frames - 3000 and index % period < 40) for index in range(frames)]
+        pulses = [
+            1000000 * (index < frames - 3000 and index % period < 40) for index in range(frames)
+        ]
         total = [0] * frames
         for formant, share in zip(formants, (6, 3, 1)):
             for index, value in enumerate(resonated(pulses, formant, 60 + formant // 20)):
@@ -80,13 +86,30 @@ def voice():
 
 
 def wave(name, samples, description, reference, cues):
-    extension = bext(description, b"Davonelume", reference, b"2026-11-23", b"06:00:00", 1036800000, 0, b"A=PCM,F=48000,W=16,M=mono\r\n")
+    extension = bext(
+        description,
+        b"Davonelume",
+        reference,
+        b"2026-11-23",
+        b"06:00:00",
+        1036800000,
+        0,
+        b"A=PCM,F=48000,W=16,M=mono\r\n",
+    )
     points = [point(name, at) for name, (at, _) in enumerate(cues, 1)]
     labels = [labl(name, title + b"\0") for name, (_, title) in enumerate(cues, 1)]
     sound = b"".join(sample.to_bytes(2, "little", signed=True) for sample in samples)
     with open(os.path.join(EXAMPLES, name), "wb") as file:
-        file.write(riff(chunk(b"bext", extension), fmt(bits=16), data(sound), cue(*points), adtl(*labels)))
+        file.write(
+            riff(chunk(b"bext", extension), fmt(bits=16), data(sound), cue(*points), adtl(*labels))
+        )
 
 
-wave("jingle.wav", jingle(), b"Jingle of the morning programme", b"DE-0001", [(0, b"Bell"), (36000, b"Chord")])
+wave(
+    "jingle.wav",
+    jingle(),
+    b"Jingle of the morning programme",
+    b"DE-0001",
+    [(0, b"Bell"), (36000, b"Chord")],
+)
 wave("voice.wav", voice(), b"Five vowels", b"DE-0002", [(0, b"First word")])

@@ -1,9 +1,10 @@
 #!/usr/bin/env python3
 """Renames words of the repository: tests/rename.py TABLE
 
-TABLE is a table of new names (tests/bodies/table.py). It changes files in place, and moves them.
-Remarks and documents get new names for words that are none of English: with an underscore, or with
-a capital letter after the first."""
+TABLE is a table of new names (tests/bodies/table.py). It changes files in place, and moves them. In
+comments and documents, only words that cannot be English get new names: those with an underscore,
+or with a capital letter after the first.
+"""
 import os
 import re
 import subprocess
@@ -15,20 +16,20 @@ from bodies.table import Names
 from bodies.tokens import SORTED, TOKEN, WORD, in_contracts, is_of_contract, kind_of, plain_tokens
 
 
-# a word in a remark or a document, with what shows that it is none of English: a path before it, or
-# the end of a file's name behind it
+# a word in a comment or a document, with the signs that it is not English: a path before it, or the
+# end of a file's name after it
 PROSE = re.compile(r"(::)?\b(\w+)\b(?=(\.(?:antt|rt)\b|::)?)")
 
 
 def in_prose(found, scope):
-    """The new word for one in a remark or a document, where it is none of English."""
+    """The new word for one in a comment or a document, if it is not English."""
     path, word, ending = found.groups()
     if path or ending or "_" in word or re.search(r".[A-Z]", word):
         word = scope.code.get(word) or scope.everywhere.get(word, word)
     return (path or "") + word
 
 
-# what is no text of this tree's names
+# texts that do not contain names of this tree
 LEFT = ("tests/cases", "bench/results", "tests/wrong_bodies.tried")
 
 
@@ -38,11 +39,13 @@ def crate_of(path):
 
 
 def new_code(kind, text, scope):
-    """A piece of a source, a definition or a proof that has no import."""
+    """A piece of a source, a definition or a proof without imports."""
     pieces, at, before = [], 0, ""
     found = list(pattern_of(kind).finditer(text))
     shown = [one for one in found if not is_remark(one.group())]
-    where = dict(zip((one.start() for one in shown), in_contracts(kind, [one.group() for one in shown])))
+    where = dict(
+        zip((one.start() for one in shown), in_contracts(kind, [one.group() for one in shown]))
+    )
     for one in found:
         pieces.append(text[at : one.start()])
         token, at = one.group(), one.end()
@@ -65,8 +68,8 @@ def pattern_of(kind):
 
 
 def new_import(kind, line, scope):
-    """An import. What a type of the code declares keeps its name there, and has another one where
-    a record has it."""
+    """An import. A name that a type of the code declares keeps its name there, and gets another one
+    where a record has it."""
     tokens = plain_tokens(kind, line)
     here = is_of_contract(tokens)
     declared = "declared" in tokens and (tokens[0] == "ghost" or ";" not in tokens)
@@ -99,11 +102,13 @@ def new_source(path, text, scope):
 
 
 def new_edits(text, scope):
-    """The wrong bodies of a crate: their files, and the code in them; a wrong body has its name as a
-    word of the code."""
+    """The wrong bodies of a crate: their files, and the code in them. The name of a wrong body is
+    treated as a word of the code."""
     def line_of(line):
         pieces = re.split(r'("(?:\\.|[^"\\])*")', line)
-        other = (re.sub(r"\w+", lambda word: scope.name(word.group(), "", False), one) for one in pieces)
+        other = (
+            re.sub(r"\w+", lambda word: scope.name(word.group(), "", False), one) for one in pieces
+        )
         return "".join(one if one.startswith('"') else new for one, new in zip(pieces, other))
 
     return "\n".join(line_of(line) for line in text.split("\n"))
@@ -128,7 +133,9 @@ def new_path(path, names):
 
 def main():
     names = Names(text_of(sys.argv[1]))
-    told = subprocess.run(["git", "ls-files", "-z"], cwd=TOP, capture_output=True, text=True, check=True)
+    told = subprocess.run(
+        ["git", "ls-files", "-z"], cwd=TOP, capture_output=True, text=True, check=True
+    )
     own = os.path.relpath(os.path.abspath(sys.argv[1]), TOP)
     for path in filter(None, told.stdout.split("\0")):
         place = os.path.join(TOP, path)

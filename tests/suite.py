@@ -35,7 +35,7 @@ class Suite:
         os.chmod(place, 0o755)
         os.chmod(self.program, 0o755)
         self.user = NOBODY if os.geteuid() == 0 and self.can_be_nobody() else {}
-        # whoever writes into this pipe has no reader
+        # a writer into this pipe has no reader
         reader, self.pipe = os.pipe()
         os.close(reader)
 
@@ -53,7 +53,7 @@ class Suite:
         return case.needs != "permissions" or os.geteuid() != 0 or bool(self.user)
 
     def faults(self, case):
-        """Runs a case, and gives what it does not do as it should."""
+        """Runs a case, and returns its faults."""
         here = os.path.join(self.place, "cases", case.command, case.name)
         folder = os.path.join(here, "in")
         put(case.files, folder)
@@ -121,21 +121,21 @@ def make_readable(folder):
 
 
 def give(folder, user):
-    """Makes all in the folder the user's."""
+    """Gives the user everything in the folder."""
     for place, folders, files in os.walk(folder):
         for path in [place, *(os.path.join(place, name) for name in folders + files)]:
             os.chown(path, user["user"], user["group"], follow_symlinks=False)
 
 
 def entry(path):
-    """The kind of what is there, with the bytes of a file and the target of a link."""
+    """The kind of an entry, with the bytes of a file and the target of a link."""
     if os.path.islink(path):
         return "link", os.readlink(path)
     return ("folder", None) if os.path.isdir(path) else ("file", bytes_of(path))
 
 
 def tree_of(folder):
-    """What is in the folder, by path."""
+    """The content of the folder, by path."""
     tree = {}
     for place, folders, files in os.walk(folder):
         for path in (os.path.join(place, name) for name in folders + files):
@@ -152,7 +152,8 @@ def tree_of_files(files):
 
 
 def tree_wanted(case, twin):
-    """What must be there after the case. A setup also runs in a twin folder, to see its effect."""
+    """The expected content after the case. A setup also runs in a twin folder, to see its
+    effect."""
     tree = tree_of_files(case.files)
     if case.setup:
         put(case.files, twin)
@@ -163,7 +164,7 @@ def tree_wanted(case, twin):
 
 
 def text_faults(kind, wanted, got):
-    """The first lines that differ: `-` is wanted, `+` is there."""
+    """The first lines that differ: `-` is expected, `+` is the result."""
     if wanted == got:
         return []
     lines = difflib.unified_diff(bytes_lines(wanted), bytes_lines(got), n=0, lineterm="")
@@ -186,7 +187,7 @@ def tree_faults(wanted, got):
 
 
 def run_all(suite, cases):
-    """Runs the cases, prints what fails or is skipped, and counts passed, failed and skipped."""
+    """Runs the cases, prints failed and skipped ones, and counts passed, failed and skipped."""
     skipped = [case for case in cases if not suite.can_run(case)]
     for case in skipped:
         print("skipped %s: root may read and write every file, no other user here" % case.title)

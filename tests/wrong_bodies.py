@@ -1,33 +1,35 @@
 #!/usr/bin/env python3
 """Tries wrong bodies many at a time: tests/wrong_bodies.py [--changed] [--jobs N] [CRATE]..., one
-alone: CRATE/NAME, or those that rest on what changed since a commit: --renamed MAP OLD
+alone: CRATE/NAME, or those that depend on changes since a commit: --renamed MAP OLD
 
 They are in crates/CRATE/wrong-bodies.txt, a paragraph for each: `edit: NAME` and the lines of a
-must-fail edit, `file:` with pairs of `old:` and `new:`. `rt must-fail` checks a crate once for each edit; here a round applies one edit to each of
-many functions, checks the crate once, and wants each edited function to be refused for itself: by a
-goal of its own that is left open. A function that is refused only since it calls one that is not
-proved does not count: its edit goes into another round, and at last into a check of its own.
+must-fail edit, `file:` with pairs of `old:` and `new:`. `rt must-fail` checks a crate once for each
+edit. Here a round applies one edit to each of many functions and checks the crate once; each edited
+function must be rejected by an open goal of its own. A function that is rejected only because it
+calls one that is not proved does not count: its edit goes into another round, and finally into a
+separate check.
 
-A function with a hand-written answer can be refused since that answer fits no longer, though its
-contract may admit the body. So the round is checked again with such answers left out: a goal has to
-be open then. Where none is, the contract lets the body through. What is refused in no other way
-than that its proof names what the edit took away (as a branch that is gone) says little of the
-contract. Both are told, and have to be mended: by a clause that says more, or by another wrong
-body. An edit of what is no function's body is a round of its own, and names the function that has
-to be refused in a line `refused: NAME`.
+A function with a hand-written answer can be rejected because that answer no longer fits, although
+its contract may accept the body. So the round is checked again without such answers: a goal must be
+open then. If none is, the contract accepts the body. A body that is rejected only because its proof
+names something that the edit removed (such as a branch) says little about the contract. Both are
+reported, and must be fixed by a stronger clause or another wrong body. An edit of something other
+than a function's body is a separate round, and names the function that must be rejected in a line
+`refused: NAME`.
 
-It works on copies of the crates, over what their checks keep in out/, which it makes first where it
-is not there; each round begins with that.
+It works on copies of the crates, with the work that their checks keep in out/, which it makes first
+if it is missing; each round starts from that.
 
-tests/wrong_bodies.tried has a line for each crate whose wrong bodies were all refused: its name,
-how many there were, and a sum of all that they rest on (tests/bodies/sums.py); of a crate that has
-none, lines CRATE/NAME with the sums of those that were refused, which are not tried again. With
---changed, as the gate calls it, the crates whose line no longer holds are tried, and of the others
-ten wrong bodies that are drawn by the hash of the tree (tests/bodies/draw.py).
+tests/wrong_bodies.tried has a line for each crate whose wrong bodies were all rejected: its name,
+their number, and a sum of all that they depend on (tests/bodies/sums.py). For a crate without such
+a line it has lines CRATE/NAME with the sums of the bodies that were rejected, which are not tried
+again. With --changed, as in the gate, it tries the crates whose line no longer holds, and ten wrong
+bodies of the others, drawn by the hash of the tree (tests/bodies/draw.py).
 
-A line is written only by a run that tried its edits, or by --renamed, which maps the new names
-of a rename back, and tries those edits that do not rest on the same tokens as in the commit OLD,
-where the line held (tests/bodies/renamed.py)."""
+A line is written only by a run that tried its edits, or by --renamed. That maps the new names of a
+rename back, and tries the edits that do not depend on the same tokens as in the commit OLD, where
+the line held (tests/bodies/renamed.py).
+"""
 import argparse
 import concurrent.futures
 import os
@@ -46,8 +48,8 @@ from bodies.refusals import Bench, OutOfTime, link_or_copy, tried_in_rounds
 from bodies.renamed import write_renamed
 from bodies.sums import TOP, bodies_tried, crate_lines, note_bodies, note_tried, sum_of, tried
 
-# how many wrong bodies of one crate are tried one round after another, in a copy of the crate: a
-# check with 85 of the greatest crate took 9 GB
+# the number of wrong bodies of one crate that are tried one round after another, in a copy of the
+# crate: a check of the largest crate with 85 took 9 GB
 PART = 32
 
 WEAK = {
@@ -57,8 +59,8 @@ WEAK = {
 
 
 def try_part(name, edits):
-    """What is wrong with some wrong bodies of a crate, each by its name, which of them are refused
-    too weakly, and in how many checks; nothing where the crate itself is not proved."""
+    """The faults of some wrong bodies of a crate, each by its name, those that are rejected too
+    weakly, and the number of checks; nothing if the crate itself is not proved."""
     with tempfile.TemporaryDirectory() as top:
         crate = copy_project(name, top)
         bench = Bench(crate, name, os.path.join(TOP, "crates", name))
@@ -71,8 +73,8 @@ def try_part(name, edits):
 
 
 def left_to_try(name, bodies):
-    """The edits of a crate that are to be tried: those of these names, or all whose own lines do not
-    hold."""
+    """The edits of a crate that must be tried: those with these names, or all whose own lines do
+    not hold."""
     folder = os.path.join(TOP, "crates", name)
     if bodies:
         return edits_of(folder, bodies)
@@ -82,8 +84,8 @@ def left_to_try(name, bodies):
 
 
 def try_noting(name, edits):
-    """Tries a part of the wrong bodies of a crate, as `try_part`, and notes those that are refused,
-    so that a run that is stopped loses no part that it has tried."""
+    """Tries a part of the wrong bodies of a crate, as `try_part`, and records the rejected ones, so
+    that a run that is stopped loses no finished part."""
     sums = {edit.name: sum_of(name, body=edit.name) for edit in edits}
     made, part = sum_of(name), try_part(name, edits)
     if part is not None and made == sum_of(name):
@@ -92,8 +94,8 @@ def try_noting(name, edits):
 
 
 def try_crate(name, bodies, pool):
-    """Tries the wrong bodies of a crate, or those named, in parts of PART at most that the pool
-    tries side by side; how many were not refused as they have to be."""
+    """Tries the wrong bodies of a crate, or the given ones, in parts of at most PART, which the
+    pool tries in parallel; returns how many were not rejected as required."""
     edits, count = left_to_try(name, bodies), len(texts_of(os.path.join(TOP, "crates", name)))
     work = try_part if bodies else try_noting
     made, parts, wrong, weak, checks = sum_of(name), -(-len(edits) // PART), {}, {}, 0
@@ -118,8 +120,8 @@ def try_crate(name, bodies, pool):
 
 
 def tried_to_the_end(name, work):
-    """What the work on a crate gives; where it fails itself, that is told of this crate, and the
-    others go on."""
+    """The result of the work on a crate. If the work itself fails, that is reported for this crate,
+    and the others go on."""
     try:
         return work()
     except Exception:
@@ -128,11 +130,11 @@ def tried_to_the_end(name, work):
 
 
 def try_crates(crates, jobs):
-    """Tries the wrong bodies of these crates, each with the names of some or none for all; how many
-    were not refused as they have to be."""
+    """Tries the wrong bodies of these crates, each with the names of some, or None for all; returns
+    how many were not rejected as required."""
     for name in crates:
-        # proves it and those that it stands on, unless `rt ci` just did, so that the rounds begin with
-        # what this keeps
+        # proves it and the crates that it depends on, unless `rt ci` just did, so that the rounds
+        # start from the kept work
         stamp_libraries(name)
         place = os.path.join(TOP, "crates", name)
         if subprocess.run(["rt", "check"], cwd=place, capture_output=True).returncode != 0:
@@ -148,8 +150,8 @@ def try_crates(crates, jobs):
 
 
 def try_draw(crates):
-    """Tries the ten wrong bodies of these crates that belong to the tree; how many were not refused
-    as they have to be."""
+    """Tries the tree's ten wrong bodies of these crates; returns how many were not rejected as
+    required."""
 
     deadline = time.monotonic() + 60 * MINUTES
 
@@ -176,14 +178,14 @@ def try_draw(crates):
 
 
 def by_number():
-    """The crates that have wrong bodies, those with the most first."""
+    """The crates that have wrong bodies, sorted by their number, greatest first."""
     counts = {one: len(texts_of(os.path.join(TOP, "crates", one))) for one in crate_lines()}
     return sorted((one for one in counts if counts[one]), key=lambda one: (-counts[one], one))
 
 
 def named(words):
-    """The crates of some words CRATE or CRATE/NAME, each with the names of its wrong bodies, or none
-    for all."""
+    """The crates of some words CRATE or CRATE/NAME, each with the names of its wrong bodies, or
+    None for all."""
     crates = {}
     for word in words:
         crate, _, body = word.partition("/")

@@ -1,19 +1,20 @@
 """The ten wrong bodies that `tests/wrong_bodies.py --changed` tries although no line has lapsed.
 
-They are drawn by the hash of the tree, so one tree has one draw, and over many trees each wrong
-body has its turn. All wrong bodies of the crates whose line holds are put in the order of the
-SHA-256 of that hash and their names. The crate of the first one is looked at, and of it the first
-ten bodies of different functions; where it has fewer, so are the crates of the next ones. Most of
-what a body costs is the check of its crate, so ten crates would cost ten times as much. A crate's
-chance is that of its part of all bodies.
+They are drawn by the hash of the tree, so the draw is the same for one tree, and over many trees
+each wrong body is drawn. All wrong bodies of the crates whose line holds are sorted by the SHA-256
+of that hash and their names. The first one selects the crate, and the first ten bodies of different
+functions in this crate are drawn; if it has fewer, the crates of the next ones follow. Most of the
+cost of a body is the check of its crate, so ten crates would cost ten times as much. The chance of
+a crate is its share of all bodies.
 
-A drawn body is tried as all are, but that the check looks at the edited functions, and those that
-they call, alone. Of the crates below only the libraries are needed. `rt ci` leaves these with no
-stamp, and a check would prove them anew; so where all of them are newer than their sources, and
-none has a stamp, the copies on which the draw is tried get one.
+A drawn body is tried like all others, but the check covers only the edited functions and those that
+they call. Of the crates below, only the libraries are needed. `rt ci` leaves these without a stamp,
+and a check would prove them again. So if all of them are newer than their sources and none has a
+stamp, the copies on which the draw is tried get one.
 
-The draw is a sample and ends after MINUTES minutes on the clock; what was not tried by then is
-named, and does not fail."""
+The draw is a sample and ends after MINUTES minutes; bodies that were not tried by then are listed,
+and do not fail.
+"""
 import hashlib
 import os
 import shutil
@@ -38,7 +39,7 @@ for one in rtlib.crates_below(os.getcwd()):
 
 
 def tree_hash(top=TOP):
-    """Git's hash of the tree of HEAD; where there is no git, a sum over the files of the crates."""
+    """Git's hash of the tree of HEAD; without git, a sum over the files of the crates."""
     words = ["git", "rev-parse", "HEAD^{tree}"]
     try:
         told = subprocess.run(words, cwd=top, capture_output=True, text=True)
@@ -56,7 +57,7 @@ def tree_hash(top=TOP):
 
 
 def in_order(hash_of_tree, bodies):
-    """The bodies, each a crate and a name, in the order that belongs to a tree."""
+    """The bodies, each a crate and a name, in the order for a tree."""
 
     def place(body):
         return hashlib.sha256(" ".join((hash_of_tree, *body)).encode()).digest()
@@ -65,7 +66,7 @@ def in_order(hash_of_tree, bodies):
 
 
 def share(crate, names, most):
-    """The first edits of different functions of a crate, so many at most."""
+    """The first edits of different functions of a crate, at most `most` of them."""
     taken, texts, folder = [], {}, os.path.join(TOP, "crates", crate)
     for edit in edits_of(folder, names):
         fits = edit.is_alone() or is_apart(edit, [one for one in taken if not one.is_alone()])
@@ -77,7 +78,7 @@ def share(crate, names, most):
 
 
 def drawn(order):
-    """Of the bodies in their order those that are drawn, by their crates."""
+    """The drawn bodies, by their crates; `order` has all bodies in order."""
     names, found, left = {}, {}, DRAWN
     for crate, name in order:
         names.setdefault(crate, []).append(name)
@@ -96,8 +97,8 @@ def bodies_of(crates):
 
 
 def copy_project(name, top):
-    """Copies a crate and those that it stands on, with what is needed of what their checks kept,
-    and lists them alone."""
+    """Copies a crate and the crates that it depends on, with the needed part of what their checks
+    kept, and lists only these."""
     lines = crate_lines()
     reached = crates_below(name, lines)
     passed = shutil.ignore_patterns("must-fail", FILE, "out")
@@ -116,8 +117,7 @@ def copy_project(name, top):
 
 
 def is_newer(folder):
-    """Whether a crate's library is there, with no stamp, and is newer than all that it is made
-    of."""
+    """Whether a crate's library exists, has no stamp, and is newer than all its sources."""
     library = os.path.join(folder, "out", "rlib")
     if not os.path.isdir(library) or os.path.exists(os.path.join(library, "stamp")):
         return False
@@ -127,8 +127,8 @@ def is_newer(folder):
 
 
 def stamp_libraries(name, top=TOP):
-    """Has a check in a copy, or in the tree itself, take the libraries below a crate as `rt ci` left
-    them."""
+    """Makes a check in a copy, or in the tree itself, accept the libraries below a crate as `rt ci`
+    left them."""
     below = [one for one in crates_below(name, crate_lines()) if one != name]
     if below and all(is_newer(os.path.join(TOP, "crates", one)) for one in below):
         of_rt = os.path.dirname(os.path.realpath(shutil.which("rt")))
@@ -136,7 +136,7 @@ def stamp_libraries(name, top=TOP):
 
 
 def try_drawn(name, edits, top, deadline):
-    """What is wrong with some edits of a crate, each by its name, tried on a copy below `top`."""
+    """The faults of some edits of a crate, each by its name, tried on a copy below `top`."""
     crate = copy_project(name, top)
     stamp_libraries(name, top)
     bench = Bench(crate, name, os.path.join(TOP, "crates", name), narrow=True, deadline=deadline)

@@ -1,19 +1,20 @@
-"""Edits that make a body wrong, the functions of source files that they touch, and rounds of edits
-that can be tried together."""
+"""Edits that make a body wrong, the functions of source files that they change, and rounds of edits
+that can be tried together.
+"""
 import os
 import re
 
 FUNCTION = re.compile(r"( *)(pub(\(crate\))? )?(const )?fn (\w+)")
 PLAIN_IMPL = re.compile(r"impl(?:<.*?>)? (\w+)(?:<[^<>]*>)? \{")
-# A method that is called so is not found by the sums (items.py).
+# A method that is called like this is not found by the sums (items.py).
 SPACED = re.compile(r"(?m)^new: .*\.\w+ +\(")
-# The file of a crate that has its wrong bodies: a paragraph for each, which begins with a line
+# The file of a crate with its wrong bodies: a paragraph for each, which begins with a line
 # `edit: NAME`.
 FILE = "wrong-bodies.txt"
 
 
 def texts_of(crate):
-    """The wrong bodies in the folder of a crate: the texts of their edits by their names."""
+    """The wrong bodies of a crate's folder: the texts of their edits by their names."""
     path = os.path.join(crate, FILE)
     if not os.path.exists(path):
         return {}
@@ -29,16 +30,16 @@ def texts_of(crate):
 
 
 def edits_of(crate, names=None):
-    """The edits of a crate by their names: all, or those named."""
+    """The edits of a crate by their names: all, or the given ones."""
     texts = texts_of(crate)
     wanted = sorted(texts) if names is None else names
     return [Edit(name, texts[name], crate) for name in wanted]
 
 
 class Function:
-    """A function of a source file: its name, the lines that it and its attributes are on, counted
-    from 1, whose method it is, where an `impl` of a type alone has it, and the head of that `impl`
-    or of one of an interface."""
+    """A function of a source file: its name; its lines and those of its attributes, counted from 1;
+    the type of its `impl`, if that is an `impl` of a type alone; and the head of its `impl`, of a
+    type or an interface."""
 
     def __init__(self, path, name, first, last, head):
         self.path, self.name, self.first, self.last, self.head = path, name, first, last, head
@@ -47,13 +48,13 @@ class Function:
         self.key = (path, name, first)
 
     def module(self):
-        """The path of its module below the crate, nothing of the root file's."""
+        """The path of its module below the crate; empty for the root file."""
         path = os.path.splitext(self.path)[0].split("/")[1:]
         return "" if path in (["lib"], ["main"]) else "::".join(path)
 
     def full_name(self):
-        """Its path below the crate, as a check prints it: a method of an interface stands under the
-        type and the interface as one word, as `LabelsIterator`."""
+        """Its path below the crate, as a check prints it: a method of an interface is listed under
+        the type and the interface as one word, as `LabelsIterator`."""
         names = [self.module()] if self.module() else []
         if self.owner:
             names.append(self.owner)
@@ -64,7 +65,7 @@ class Function:
 
 
 def functions(path, text):
-    """The functions of a source file of this text."""
+    """The functions of a source file with this text."""
     found, lines = [], text.split("\n")
     for i, line in enumerate(lines):
         start = FUNCTION.match(line)
@@ -82,7 +83,7 @@ def functions(path, text):
 
 
 class Edit:
-    """An edit: the file, and the texts that stand in the place of others, one after another."""
+    """An edit: the file, and the texts that replace others, one after another."""
 
     def __init__(self, name, text, crate):
         self.name = name
@@ -112,14 +113,14 @@ class Edit:
         return {one.key for one in self.functions()}
 
     def brings(self):
-        """The names of the functions that it brings in: two edits of one round may not bring in one
+        """The names of the functions that it adds: two edits of one round must not add the same
         name."""
         found = [(old, re.findall(r"\bfn (\w+)", new)) for _, old, new in self.pairs]
         return {name for old, names in found for name in names if "fn %s" % name not in old}
 
     def has(self, error):
-        """Whether an error is told at a line of a function that it edits. What stands in the place
-        of others is on as many lines."""
+        """Whether an error is reported at a line of a function that it edits. The new text has the
+        same number of lines as the old."""
         place = re.match(r"(?:so far: )?(?:\./)?(src/[^:]+):(\d+):", error)
         if place is None:
             return False
@@ -127,15 +128,15 @@ class Edit:
         return any(one.path == path and one.first <= line <= one.last for one in self.functions())
 
     def is_alone(self):
-        """Whether it changes what is no function's body, so that another function's goal shows
-        it."""
+        """Whether it changes something other than a function's body, so that the goal of another
+        function shows it."""
         return any(
             one is None and not old.startswith("use ") for (_, old), one in self.touched.items()
         )
 
 
 def is_apart(edit, others):
-    """Whether an edit can be tried beside these."""
+    """Whether an edit can be tried together with these."""
     return not edit.is_alone() and not any(
         other.is_alone() or other.keys() & edit.keys() or other.brings() & edit.brings()
         for other in others
@@ -143,8 +144,8 @@ def is_apart(edit, others):
 
 
 def rounds(edits, crate):
-    """The edits in rounds, no two of one round in one function, and none that brings in what
-    another looks for."""
+    """The edits in rounds: no two edits of one round are in one function, and none adds text that
+    another one looks for."""
     made = []
     for edit in edits:
         for one, texts in made:
@@ -158,7 +159,7 @@ def rounds(edits, crate):
 
 
 def edited(edit, texts, crate):
-    """Whether the edit can be made in these texts; they are changed where it can."""
+    """Whether the edit can be made in these texts, which are then changed."""
     changed = dict(texts)
     for file, old, new in edit.pairs:
         if file not in changed:
@@ -172,7 +173,7 @@ def edited(edit, texts, crate):
 
 
 def apply(edit, crate):
-    """Makes the edit in the files of a crate; what stands in its way, if anything."""
+    """Makes the edit in the files of a crate; returns the obstacle, if there is one."""
     for file, old, new in edit.pairs:
         path = os.path.join(crate, file)
         with open(path) as source:

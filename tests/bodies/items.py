@@ -1,9 +1,10 @@
-"""The items of a source file, and of a module of definitions or proofs, and those that a set of
-words reaches: a type, a constant, an interface or a definition by its name; an `impl` by the names
-of its type and its interface; and by the words of what is reached what these name in turn.
+"""The items of a source file, and of a module of definitions or proofs, and the items that a set of
+words reaches. A type, a constant, an interface or a definition is reached by its name, and an
+`impl` by the names of its type and its interface. The words of a reached item reach further items.
 
-A word that a contract, a definition or a proof names without a path has a mark: a record may have
-the name of the type that is seen as it. Where no definition has that name, it is a type's."""
+A word that a contract, a definition or a proof names without a path has a mark, as a record may
+have the same name as its type. If no definition has that name, it is the type's.
+"""
 import functools
 import re
 
@@ -11,28 +12,31 @@ from bodies.tokens import REMARK, SORTED, in_contracts, is_of_contract, kind_of,
 
 # The first line of an item of a source that others reach by a name.
 NAMED = re.compile(
-    r"(?:pub(?:\(\w+\))? )?(?:unsafe )?(?:struct|enum|union|trait|type|const|static)\s+(?:mut )?(\w+)"
+    (
+        r"(?:pub(?:\(\w+\))? )?(?:unsafe )?(?:struct|enum|union|trait|type|const|static)\s+(?:mut "
+        r")?(\w+)"
+    )
 )
 IMPL = re.compile(r"(?:unsafe )?impl\b")
-# A file's imports, and those that others may use too.
+# A file's imports, and its exports.
 USES = {".rt": r"(?m)^(?:ghost )?use [^;]*;\n", ".antt": r"(?m)^use [^\n]*\n(?:[ \t}][^\n]*\n)*"}
 EXPORT = re.compile(r"pub use [^;]*;\n\Z")
-# The names in the braces of an import, and those that one gets by another name.
+# The names in the braces of an import, and those that an import renames.
 LISTED = re.compile(r"\{(.*)\}", re.S)
 OTHER_NAME = re.compile(r"([^\s{,.:]+) as (\S+?)[,};]?(?=\s|$|\})")
-# The first line of a definition or a lemma, and of a module of such.
+# The first line of a definition or a lemma, and of a module of them.
 MARKS = r"(?:(?:abbrev|unfoldable|pub|opaque|instance)\s+)*"
 DEFINED = re.compile(MARKS + r"(?:(?:record|data)\s+)?([^\s:({]+)")
 INNER = re.compile(r"(?m)^ +%s(?:(?:record|data)\s+)?([^\s:({]+)(?:\s[^\n:=]*)? :" % MARKS)
 WORD = re.compile(r"\w+")
-# What a source names for its proofs.
+# The modules that a source names for its proofs.
 TACTIC = re.compile(r"#!?\[tactic\((.*?)\)\]", re.S)
-# A name where a method of that name may be meant: it is called, without a space as `rt fmt` lays
-# it out, or stands behind a path.
+# A name where a method with that name may be meant: it is called, without a space as `rt fmt`
+# formats it, or comes after a path.
 CALLED = re.compile(r"\.(\w+)(?=\(|::)|::(\w+)")
 
 
-# behind a word that a contract, a definition or a proof names without a path
+# comes after a word that a contract, a definition or a proof names without a path
 MARK = "\u2032"
 
 
@@ -45,13 +49,13 @@ def words_in(text):
 
 
 def as_called(name):
-    """A word for a method that is called, which no text has as a word."""
+    """A word for a called method, which no text has as a word."""
     return name + "()"
 
 
 @functools.lru_cache(maxsize=None)
 def words_of(kind, text):
-    """The words of a text of this kind, with marks, and those of the methods that it may call."""
+    """The words of a text of this kind, with marks, and the methods that it may call."""
     text = REMARK[kind].sub(lambda found: found.group(1) or "", text) if kind in REMARK else text
     found = {as_called(one or other) for one, other in CALLED.findall(text)}
     found.update(marked(word) for one in TACTIC.findall(text) for word in WORD.findall(one))
@@ -78,14 +82,13 @@ def words_of(kind, text):
 
 
 def calls_in(path, text):
-    """The words of a file, and those of the methods that it may call."""
+    """The words of a file, and the methods that it may call."""
     return words_of(kind_of(path), text)
 
 
 class Item:
-    """An item: its text, the words in it, and the names of which some words reach it by having one,
-    or none where they always do; of an `impl` also the words of its head, without the parameters
-    that it begins with and its bounds."""
+    """An item: its text, its words, and the names that reach it, or none if it is always reached;
+    for an `impl` also the words of its head, without its first parameters and its bounds."""
 
     def __init__(self, kind, text, names, head=None):
         self.kind, self.text, self.head = kind, text, head
@@ -94,7 +97,8 @@ class Item:
         self.names = [frozenset(map(mark, words_in(name))) for name in names]
 
     def ways(self, of_logic):
-        """The sets of words of which one reaches it, where these names are those of definitions."""
+        """The sets of words, one of which must be there to reach it; `of_logic` are the names of
+        definitions."""
         ways = self.names or [frozenset()]
         if self.kind == ".rt" and self.names:
             ways = ways + [frozenset(map(marked, way)) for way in ways if not way & of_logic]
@@ -102,7 +106,7 @@ class Item:
 
 
 class File:
-    """A file: its items, and its imports, each with the names that it gives the file."""
+    """A file: its items, and its imports, each with the names that it adds to the file."""
 
     def __init__(self, kind, text):
         self.kind = kind
@@ -112,7 +116,7 @@ class File:
         self.known = {}
 
     def imports(self, text, of_logic):
-        """Those of its imports that a text needs, with the names that it has."""
+        """The imports that a text needs, with the names that it uses."""
         if (text, of_logic) not in self.known:
             found = []
             for line, names in self.uses:
@@ -123,7 +127,7 @@ class File:
         return self.known[text, of_logic]
 
     def has(self, line, name, text, of_logic):
-        """Whether a text has a name that such an import gives."""
+        """Whether a text uses a name of such an import."""
         if name == "*":
             return True
         if not WORD.fullmatch(name):
@@ -140,7 +144,7 @@ def file_of(kind, text):
 
 
 def given_names(line):
-    """The names that an import gives a file, each with the words by which it does."""
+    """The names that an import adds to a file, each with the words by which it is reached."""
     listed = LISTED.search(line)
     if not listed:
         words = re.split(r"[\s;.]+|::", line.strip())
@@ -151,8 +155,8 @@ def given_names(line):
 
 @functools.lru_cache(maxsize=None)
 def sign(name):
-    """Finds a name in a text: a word, or the signs of an operator, without the places of its
-    sides."""
+    """A pattern for a name in a text: a word, or the signs of an operator without the places of its
+    operands."""
     parts = [re.escape(part) for part in name.split("◌") if part]
     if WORD.fullmatch(name):
         return re.compile(r"(?<!\w)%s(?!\w)" % re.escape(name))
@@ -168,7 +172,7 @@ def of_names(line, names, used):
 
 
 def head_words(text):
-    """The words of the head of an `impl` that say of which type and interface it is."""
+    """The words in the head of an `impl` that name its type and its interface."""
     head = re.split(r"\{|\bwhere\b", text.partition("impl")[2], maxsplit=1)[0].lstrip()
     if head.startswith("<"):
         depth = 0
@@ -190,8 +194,8 @@ def source_item(lines):
 
 
 def source_items(text):
-    """The items of a source file as `rt fmt` lays it out: each ends with a line at the margin that
-    closes it."""
+    """The items of a source file as `rt fmt` formats it: each ends with a closing line at the
+    margin."""
     found, lines, has_head = [], [], False
     for line in text.split("\n"):
         if line.strip() == "" or line.startswith("//"):
@@ -201,7 +205,7 @@ def source_items(text):
             continue
         has_head = has_head or line[0] not in ")]"
         if has_head and (line[0] == "}" or line.endswith((";", "}"))):
-            # a module is no item, and an export is looked for by its names alone
+            # a module is not an item, and an export counts only by its names
             if not re.match(r"(?:pub(?:\(\w+\))? )?mod \w+;", lines[-1]) or len(lines) > 1:
                 if not EXPORT.match("\n".join(lines) + "\n"):
                     found.append(source_item(lines))
@@ -210,8 +214,8 @@ def source_items(text):
 
 
 def logic_items(text):
-    """The definitions and lemmas of a module: each with its clauses, which begin with its name, and
-    a module of such as one item."""
+    """The definitions and lemmas of a module: each with its clauses, which begin with its name; a
+    module of them is one item."""
     found, lines, names = [], [], None
 
     def close():
@@ -236,7 +240,7 @@ def logic_items(text):
 
 
 def of_module(item):
-    """A module of definitions and lemmas is reached by the name of each of them."""
+    """A module of definitions and lemmas is reached by the name of any of them."""
     if not re.match(r"(pub )?module ", item.text):
         return item
     return Item(".antt", item.text, INNER.findall(item.text))
@@ -250,7 +254,7 @@ class Waiting:
         self.lists, self.new = {}, []
 
     def lacks(self, item):
-        """For each way to reach an item a word that is not there, if there is none yet."""
+        """A missing word for each way to reach an item; none if one way is complete."""
         of_impl = item.head is not None
         ways = [item.head & self.defined] if of_impl else item.ways(self.of_logic)
         found = [next((word for word in way if word not in self.words), None) for way in ways]
@@ -271,9 +275,9 @@ class Waiting:
 
 
 def reached(files, words, load, of_logic):
-    """What words reach of the texts of some files, by their paths: the imports and items that they
-    reach, and nothing of a file of which they reach no item. `load` gives, by their paths, the
-    texts of the modules that a text names; `of_logic` are the names of all definitions."""
+    """The imports and items that words reach in the texts of some files, by their paths. A file of
+    which no item is reached gives nothing. `load` returns, by their paths, the texts of the modules
+    that a text names; `of_logic` are the names of all definitions."""
     files = {path: file_of(kind_of(path), text) for path, text in files.items()}
     every = [(path, one) for path, file in files.items() for one in file.items]
     defined = frozenset(word for _, one in every for name in one.names for word in name)
@@ -296,7 +300,7 @@ def reached(files, words, load, of_logic):
 
 
 def other_names(kind, imports):
-    """The names that imports bring in under other ones."""
+    """The names that imports rename."""
     found = set()
     for line in imports:
         of_contract = is_of_contract(plain_tokens(kind, line))
@@ -306,13 +310,13 @@ def other_names(kind, imports):
 
 
 def text_of(file, found, of_logic):
-    """A file's items that were reached, with the imports that they need."""
+    """The reached items of a file, with the imports that they need."""
     text = "".join(one.text for one in file.items if id(one) in found)
     return "".join(file.imports(text, of_logic)) + text
 
 
 @functools.lru_cache(maxsize=None)
 def defined_in(text):
-    """The names that a module of definitions or proofs gives."""
+    """The names that a module of definitions or proofs defines."""
     names = (DEFINED.match(line) for line in text.split("\n") if line[:1].strip())
     return words_in(" ".join(one.group(1) for one in names if one))

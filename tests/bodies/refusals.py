@@ -1,5 +1,6 @@
-"""How a check refuses the wrong bodies of a round: each for itself, by a goal of its own, by names
-of its proof that are gone, or not at all."""
+"""How a check rejects the wrong bodies of a round: each of them by a goal of its function, by
+missing names of its proof, or not at all.
+"""
 import os
 import re
 import shutil
@@ -9,25 +10,25 @@ import time
 
 from bodies.edits import apply, functions
 
-# What is said of a body that does not compile.
+# The report for a body that does not compile.
 NOT_COMPILED = "it does not compile: "
 
 NOT_NAMED = "it changes no function's body, and names none that has to be refused"
 
 NAMES_GONE = r"has no field|has no `|is not in scope|was not admitted"
 
-# How often a round is checked again: an answer that fits no longer may be told only once another
-# one is left out.
+# How often a round is checked again: an answer that does not fit may be reported only after another
+# one was left out.
 LOOKS = 6
 
 
 def proof_places(one, names):
-    """Patterns of the folder that has a function's proof, of those of a round with functions of
+    """Patterns for the folder with a function's proof, or with those of a round with functions of
     these names."""
-    # what stands in the place of others is on as many lines, so the lines of functions stay
+    # a new text has the same number of lines, so the lines of functions stay
     module = os.path.splitext(one.path)[0][len("src/") :]
-    # an impl of another module's type has its proofs under that type's name: its function's name
-    # alone tells it, where it is the only one
+    # an impl of another module's type has its proofs under that type's name: only the function's
+    # name identifies it, if it is unique
     places = [r"proofs/%s/(?:\w+/)*\+?%s/" % (re.escape(module), one.name)]
     if one.owner:
         places.append(r"proofs/(?:\w+/)*%s/\+?%s/" % (one.owner, one.name))
@@ -37,8 +38,8 @@ def proof_places(one, names):
 
 
 def refusal(one, report, names):
-    """How a report refuses a function for itself: by what it is to ensure, by names of its proof
-    that are gone alone, or not at all."""
+    """How a report rejects a function: by its postcondition, only by missing names of its proof, or
+    not at all."""
     lines = re.findall(r"(?:note: )?%s:(\d+):" % re.escape(one.path), report)
     own = [line for line in lines if one.first <= int(line) <= one.last]
     for place in proof_places(one, names):
@@ -52,25 +53,25 @@ def refusal(one, report, names):
 
 
 class Answers:
-    """A function's hand-written answers in a copy of its crate, of which those that fit no longer
-    are left out."""
+    """A function's hand-written answers in a copy of its crate, without those that no longer
+    fit."""
 
     def __init__(self, path, crate):
         self.path, self.file = path, os.path.join(crate, path)
 
     def errors(self, report):
-        """The lines of the file at which a report finds an error, and what it says there."""
+        """The lines of the file at which a report finds an error, and its messages there."""
         told = re.findall(re.escape(self.path) + r":(\d+):\d+: error(.*)", report)
         return [(int(line), text) for line, text in told]
 
     def is_open(self, report):
-        """Whether a report finds a goal of the function open that has no answer."""
+        """Whether a report finds an open goal of the function that has no answer."""
         expected = r"expected answers in \./" + re.escape(self.path)
         return re.search(expected, report) is not None
 
     def leave_out(self, wrong):
-        """Leaves out the answers that these lines, counted from 1, belong to. None is left out
-        where a line belongs to none."""
+        """Leaves out the answers with these lines, counted from 1. If a line belongs to none, no
+        answer is left out."""
         with open(self.file) as answers:
             lines = answers.read().split("\n")
         begins = [i for i, line in enumerate(lines) if re.match(r"(abbrev )?pub \S+ :", line)]
@@ -87,8 +88,8 @@ class Answers:
         return bool(left)
 
     def decided(self, report):
-        """What a report says of a function, where no answer is left that fits no longer; nothing
-        where some were left out now, for another look."""
+        """A report's verdict on a function, if all remaining answers fit; otherwise the others are
+        left out and the result is None, for another check."""
         errors = self.errors(report)
         if self.is_open(report):
             return "for itself"
@@ -97,20 +98,21 @@ class Answers:
         folder = os.path.dirname(self.path)
         if re.search(re.escape(folder) + r"/\w+\.antt:\d+:\d+: error", report):
             return "names"
-        # what calls another edited function of the round is not looked at where that is refused
+        # a function that calls another edited function of the round is not checked if that one is
+        # rejected
         name = re.escape(os.path.basename(folder).lstrip("+"))
         hidden = r"fn \S*\b%s: (no proof|not proved)[:;] it calls" % name
         return "hidden" if re.search(hidden, report) else "let through"
 
 
 def end_of(name):
-    """The last two words of a function's path, by which a check knows it where they are its alone:
-    a method of another module's type has a longer path than its file tells."""
+    """The last two words of a function's path, by which a check finds it if they are unique: a
+    method of another module's type has a longer path than its file shows."""
     return "::".join(name.split("::")[-2:])
 
 
 def only_words(edits, sources):
-    """The words that have a check look at the functions of these edits alone."""
+    """The words that restrict a check to the functions of these edits."""
     found = [one for path, text in sources.items() for one in functions(path, text)]
     ends = [end_of(one.full_name()) for one in found]
     names = [one.full_name() for edit in edits for one in edit.functions()]
@@ -128,8 +130,8 @@ class OutOfTime(Exception):
 
 
 class Bench:
-    """A copy of a crate on which rounds are tried, and the crate as it is. Where it is narrow, a
-    check looks at the edited functions and what they call alone."""
+    """A copy of a crate on which rounds are tried, and the unchanged crate. If it is narrow, a
+    check covers only the edited functions and those that they call."""
 
     def __init__(self, crate, name, kept, narrow=False, deadline=None):
         self.crate, self.name, self.kept, self.narrow = crate, name, kept, narrow
@@ -152,17 +154,17 @@ class Bench:
         return run.returncode, told
 
     def report(self, edits):
-        """Checks the crate, or what is narrow enough of it, and gives what is said of it, and not
-        of those below it."""
+        """Checks the crate, or the narrow part of it; returns the report on it, without the crates
+        below."""
         _, told = self.check(only_words(edits, self.sources()) if self.narrow else [])
         if self.narrow and re.search(NOT_FOUND, told):
             _, told = self.check()
         return told[max(told.rfind("for " + self.name + "\n"), 0) :]
 
     def begin(self, edits):
-        """Has the crate's files and its kept work be those of the crate as it is, with these edits:
-        a round that begins with what another round left would prove once more each function that
-        the other had edited, and all that call one. What stands in the way of each edit."""
+        """Resets the crate's files and its kept work to the unchanged crate, and makes these edits;
+        returns the obstacle for each edit. A round that started from the state of another one would
+        prove again each function that the other one had edited, and all its callers."""
         for folder in ["src", "proofs", "specs"]:
             if os.path.isdir(os.path.join(self.kept, folder)):
                 shutil.rmtree(os.path.join(self.crate, folder), ignore_errors=True)
@@ -176,7 +178,7 @@ class Bench:
         return {edit.name: apply(edit, self.crate) for edit in edits}
 
     def sources(self):
-        """The texts of the crate's sources as they are, by their files below it."""
+        """The texts of the crate's unchanged sources, by their paths below it."""
         found = {}
         for at, _, names in os.walk(os.path.join(self.kept, "src")):
             for path in [os.path.join(at, name) for name in names if name.endswith(".rt")]:
@@ -205,7 +207,7 @@ def names_of(edits):
 
 
 def misfits(edits, bench, report):
-    """By their files, the edits whose functions have answers that a report finds an error in."""
+    """By their files, the edits whose functions have answers in which a report finds an error."""
     names, left = names_of(edits), {}
     for edit in edits:
         places = [
@@ -221,8 +223,8 @@ def misfits(edits, bench, report):
 
 
 def looked_at_again(edits, bench, report):
-    """How those of the edits are refused whose functions were, and by no more than an answer that
-    fits no longer: once such answers are left out. The crate begins anew with these edits alone."""
+    """The verdicts on the edits whose functions were rejected only by answers that no longer fit,
+    after such answers are left out. The crate starts again with only these edits."""
     told, left = {}, {}
     for path, edit in misfits(edits, bench, report).items():
         if Answers(path, bench.crate).is_open(report):
@@ -248,20 +250,20 @@ def looked_at_again(edits, bench, report):
 
 
 def stopped(edit, edits, stops):
-    """What is wrong with an edit of a round in which some do not compile."""
+    """The fault of an edit in a round in which some edits do not compile."""
     own = stops if len(edits) == 1 else [stop for stop in stops if edit.has(stop)]
     return NOT_COMPILED + own[0] if own else "a body beside it does not compile"
 
 
 def alone(edit, report):
-    """What is wrong with an edit of what is no function's body."""
+    """The fault of an edit of something other than a function's body."""
     status = r"fn \S*\b%s: (not proved(?!; it calls)|no proof: expected answers)" % edit.refused
     return None if re.search(status, report) else "%s was not refused for itself" % edit.refused
 
 
 def try_round(edits, bench):
-    """What is wrong with each edit of a round, by its name, and those that are refused by names of
-    a proof that are gone, or let through once answers that do not fit are left out."""
+    """The fault of each edit of a round, by its name; and the edits that are rejected by missing
+    names of a proof, or accepted after answers that do not fit are left out."""
     if edits[0].is_alone() and edits[0].refused is None:
         return {edits[0].name: NOT_NAMED}, {}
     wrong, weak, doubtful = bench.begin(edits), {}, []
@@ -293,7 +295,7 @@ def try_round(edits, bench):
 
 
 def tried_in_rounds(edits, bench, rounds):
-    """What is wrong with each of these edits, those that are weak, and how many rounds it took."""
+    """The fault of each of these edits, the weak ones, and the number of rounds."""
     wrong, weak, left, checks = {}, {}, edits, 0
     while left:
         hidden = []
@@ -301,9 +303,9 @@ def tried_in_rounds(edits, bench, rounds):
             of_round, of_weak = try_round(one, bench)
             checks += 1
             weak.update(of_weak)
-            # what does not compile is told at once; a function is not looked at beside such a one,
-            # nor where one that it calls is refused in the same round: such edits go into rounds
-            # again
+            # an edit that does not compile is reported at once; a function is not checked together
+            # with such an edit, nor if a function that it calls is rejected in the same round: such
+            # edits go into further rounds
             for edit in one:
                 why = of_round.get(edit.name)
                 if why and (len(one) == 1 or why.startswith(NOT_COMPILED)):

@@ -1,16 +1,18 @@
-"""Lines of tests/wrong_bodies.tried for crates in which names have changed, and some functions: the
+"""Lines of tests/wrong_bodies.tried for crates in which names and some functions have changed: the
 work of `tests/wrong_bodies.py --renamed MAP OLD`.
 
 MAP is a table of new names (tests/bodies/table.py). OLD is a commit. A crate gets its new line only
-if its line held in OLD, by that commit's own script. All that its sum covers has to be the same
-tokens as then, once the new names are mapped back. If something differs, each wrong body is looked
-at for itself: if all that it rests on is the same tokens, it was refused in OLD. The others, and
-those that OLD does not have, are tried, and have to be refused; otherwise the first difference is
-printed, and the line stays as it is.
+if its line held in OLD, by that commit's own script. The tokens of all that its sum covers must be
+the same as then, after the new names are mapped back. If something differs, each wrong body is
+compared separately: if the tokens of all that it depends on are the same, it was rejected in OLD.
+The others, and those that OLD does not have, are tried, and must be rejected; otherwise the first
+difference is printed, and the line stays as it is.
 
-A map has to lead back without a doubt: no two names may become one, no new name may be a word of
-OLD, and where a crate's files have a new name they may not have the old one too. A new name of
-contracts may be a word of OLD's code, or of what gets another name there; one of code likewise."""
+A map must be reversible with certainty: no two names may become one, no new name may be a word of
+OLD, and if a crate's files have a new name, they must not have the old one as well. A new name in
+contracts may be a word of OLD's code, or of something there that gets another name; likewise for a
+new name in code.
+"""
 import os
 import subprocess
 import sys
@@ -22,7 +24,7 @@ from bodies.sums import text_of, tried
 from bodies.table import BadMap, Names
 from bodies.tokens import names_by_place, tokens_of, words_of_path
 
-# Run in the tests of OLD: what counts as refused, and the crates of its record whose line holds.
+# Run in the tests of OLD: its rules for rejection, and the crates of its record whose line holds.
 HOLDS = """
 import sys
 import wrong_bodies
@@ -39,7 +41,7 @@ for name, line in wrong_bodies.tried().items():
 
 def words_of_crate(name, line, top):
     """The words of a crate: those that its contracts, definitions and proofs name without a path,
-    all others, and all, each with a file that has it."""
+    all others, and all; each with a file that has it."""
     told, crate = ({}, {}, {}), os.path.join(top, "crates", name)
     texts = {path_of(name, body): text for body, text in texts_of(crate).items()}
     for at, folders, files in os.walk(crate):
@@ -54,7 +56,7 @@ def words_of_crate(name, line, top):
 
 
 def check_map(names, old_top):
-    """A new name that OLD has would lead back to another one."""
+    """Rejects a new name that OLD has: it would map back to another one."""
     for crate, line in crate_lines(old_top).items():
         words = words_of_crate(crate, line, old_top)
         places = {"contract": words[0], "clause": words[0], "code": words[1], None: words[2]}
@@ -81,8 +83,8 @@ def old_body(name, body, names):
 
 
 def both_names(texts, names):
-    """An old name that is in a crate's texts next to its new one, if any: both would lead back to
-    it."""
+    """An old name that is in a crate's texts together with its new one, if any: both would map back
+    to it."""
     words = {}
     for path, text in texts.items():
         found = words.setdefault(names.old_crate(path), ({}, {}, {}))
@@ -103,14 +105,14 @@ def both_names(texts, names):
 
 
 def token_difference(path, new, old):
-    """Where two lists of tokens differ first."""
+    """The first difference of two lists of tokens."""
     at = next((i for i, (a, b) in enumerate(zip(new, old)) if a != b), min(len(new), len(old)))
     told = [repr(one[at]) if at < len(one) else "the end" for one in (new, old)]
     return "%s: token %d is %s, and was %s" % (path, at + 1, *told)
 
 
 def new_bodies(name, names, old_top, new_top=TOP):
-    """The wrong bodies of a crate that it has not in OLD."""
+    """The wrong bodies of a crate that it does not have in OLD."""
     old = bodies_of(old_name(name, names), old_top)
     return [body for body in bodies_of(name, new_top) if old_body(name, body, names) not in old]
 
@@ -121,7 +123,7 @@ def bodies_of(name, top):
 
 
 def changed_bodies(name, names, old_top, new_top=TOP):
-    """The wrong bodies of a crate that OLD has, and that rest on something that differs."""
+    """The wrong bodies of a crate that OLD has, and that depend on something that differs."""
     new, found = new_bodies(name, names, old_top, new_top), []
     for body in bodies_of(name, new_top):
         if body not in new and difference(name, names, old_top, new_top, body):
@@ -130,8 +132,8 @@ def changed_bodies(name, names, old_top, new_top=TOP):
 
 
 def difference(name, names, old_top, new_top=TOP, body=None):
-    """What differs first between what a crate's sum covers and what it covered in OLD, if
-    anything; new wrong bodies are passed over, and all but one where one is given."""
+    """The first difference between what a crate's sum covers and what it covered in OLD, if any.
+    New wrong bodies are skipped; if a body is given, so are all others."""
     was_name = old_name(name, names)
     if body is None:
         others, old_others = new_bodies(name, names, old_top, new_top), ()
@@ -158,7 +160,7 @@ def difference(name, names, old_top, new_top=TOP, body=None):
 
 
 def check_out(commit, folder):
-    """Lays the tree of a commit into a folder."""
+    """Writes the tree of a commit into a folder."""
     told = subprocess.run(["git", "archive", commit], cwd=TOP, capture_output=True)
     if told.returncode != 0:
         raise BadMap("git archive %s: %s" % (commit, told.stderr.decode().strip()))
@@ -191,7 +193,7 @@ def lapsed():
 
 
 def refused(name, bodies, try_part):
-    """Whether these wrong bodies of a crate are refused; what is wrong is told."""
+    """Whether these wrong bodies of a crate are rejected; faults are printed."""
     if not bodies:
         return True
     part = try_part(name, edits_of(os.path.join(TOP, "crates", name), bodies))
@@ -202,7 +204,7 @@ def refused(name, bodies, try_part):
 
 
 def write_lines(names, folder, try_part):
-    """Writes the lines of lapsed crates that are as in OLD; how many are not."""
+    """Writes the lines of lapsed crates that are as in OLD; returns the number of the others."""
     held, left = held_in(folder), 0
     for name, made in sorted(lapsed().items()):
         if old_name(name, names) not in held:
@@ -230,8 +232,8 @@ def write_lines(names, folder, try_part):
 
 
 def write_renamed(path, commit, try_part):
-    """The work of --renamed: 0 where no crate is left lapsed, 1 where some are, 2 where the map or
-    the commit cannot be used."""
+    """The work of --renamed: 0 if no crate is lapsed any more, 1 if some are, 2 if the map or the
+    commit cannot be used."""
     try:
         names = Names(text_of(path))
         with tempfile.TemporaryDirectory() as folder:

@@ -1,12 +1,13 @@
-"""What the wrong bodies of a crate rest on: the files whose change may let one through, and a sum
+"""What the wrong bodies of a crate depend on: the files whose change may make one prove, and a sum
 of these for tests/wrong_bodies.tried.
 
-The sum covers the wrong bodies; the functions that they edit, or that have to be refused, with
-their proofs; of all other functions of the crate and of those below it what a caller can know,
-where those that are edited or the wrong bodies may call them by name; the types, constants and
-interfaces that any of this names, and what these name (tests/bodies/items.py); the definitions and
-proofs that any of it names; what counts as refused; and the toolchain's logic. It covers no tests,
-no remarks, and nothing that none of this can name."""
+The sum covers the wrong bodies; the functions that they edit, or that must be rejected, with their
+proofs; what a caller can know of all other functions of the crate and of the crates below, if the
+edited functions or the wrong bodies may call them by name; the types, constants and interfaces that
+any of these name, and what these name (tests/bodies/items.py); the definitions and proofs that any
+of them names; the rules for rejection; and the toolchain's logic. It does not cover tests,
+comments, or anything that none of these can name.
+"""
 import functools
 import hashlib
 import os
@@ -22,7 +23,7 @@ TOP = os.path.dirname(os.path.dirname(os.path.dirname(os.path.abspath(__file__))
 TRIED = os.path.join(TOP, "tests", "wrong_bodies.tried")
 WRITING = threading.Lock()
 
-# What counts as refused: a line of wrong_bodies.tried holds by these rules alone.
+# The rules for rejection: a line of wrong_bodies.tried holds only by these rules.
 RULES = "by a goal that is open, once answers that fit no longer are left out"
 
 # Where a crate has its definitions and lemmas.
@@ -31,16 +32,16 @@ PARTS = ("specs", "proofs")
 # Tests, which no round compiles, and their proofs.
 OF_TESTS = re.compile(r"/(src|proofs)/(\w+_)?tests(\.rt$|/)")
 
-# A line that brings names into a file, and into no other.
+# A line that imports names into a file, and exports none.
 IMPORT = r"(?m)^(ghost )?use [^;]*;\n"
 
-# A line that gives names of a file to those who use its crate.
+# A line that exports names of a file to the users of its crate.
 EXPORT = r"(?m)^pub use [^;]*;\n"
 
-# A line on how the crate's own functions are proved, on which no other crate rests.
+# A line on how the crate's own functions are proved, on which no other crate depends.
 OF_CRATE = r"(?m)^#!\[tactic\(.*\)\]\n"
 
-# A struct, and its fields that only its own crate can name.
+# A struct, and the fields that only its own crate can name.
 STRUCT = r"(?m)^(?:pub(?:\(\w+\))? )?struct [^;]*?\{\n(?:[ #].*\n|\n)*\}\n"
 PRIVATE = r"(?m)^    (?:pub\(crate\) )?(?!pub |ghost )\w+: [^\n]*,\n"
 
@@ -58,7 +59,7 @@ def crate_lines(top=TOP):
 
 
 def crates_below(name, lines):
-    """The crates of the project that a crate stands on, and itself."""
+    """The project's crates that a crate depends on, and the crate itself."""
     wanted, reached = [name], []
     while wanted:
         one = wanted.pop()
@@ -74,16 +75,16 @@ def functions(path, text):
 
 
 def is_named(one, words):
-    """Whether a function may be called by what has these words: a method as such, any other by its
-    name."""
+    """Whether code with these words may call a function: a method as such, any other function by
+    its name."""
     return (as_called(one.name) if one.owner else one.name) in words
 
 
 def hidden_lines(lines, one, words):
-    """The lines of a function, counted from 0, on which nothing rests in a crate above that has
-    these words: all of it where that crate cannot name it or does not, else its body. A method of
-    an interface may be called without its name. What is no plain body stays: a constant function's,
-    which a type may use, and any whose beginning is not found."""
+    """The lines of a function, counted from 0, on which a crate above with these words does not
+    depend: all of them if that crate cannot name it or does not, otherwise its body. A method of an
+    interface may be called without its name. A body that is not plain stays: that of a constant
+    function, which a type may use, and any whose beginning is not found."""
     own = range(one.first - 1, one.last)
     head = next(i for i in own if re.match(r" *(pub(\(crate\))? )?(const )?fn ", lines[i]))
     indent = re.match(" *", lines[head]).group()
@@ -103,10 +104,10 @@ def hidden_lines(lines, one, words):
 
 
 def for_callers(path, text, words, whole=None):
-    """What a crate above that has these words rests on in a source file: of a function its head and
-    its clauses, and nothing of one that the crate cannot or does not name; no private field, no
-    remark, and no line for names that none of this has; of a file that has nothing else, nothing.
-    Of the crate's own files the functions of some names are whole, and each may be called."""
+    """What a crate above with these words depends on in a source file: the head and the clauses of
+    each function that it can and does name; no private field, no comment, and no line for names
+    that are not used; nothing of a file that has nothing else. In the crate's own files, the
+    functions with the names `whole` stay whole, and each may be called."""
     named = frozenset(one.name for one in functions(path, text))
     known = (named | frozenset(map(as_called, named))) & words
     kept = kept_lines(path, text, known, None if whole is None else named & whole)
@@ -120,7 +121,8 @@ def for_callers(path, text, words, whole=None):
 
 @functools.lru_cache(maxsize=None)
 def kept_lines(path, text, words, whole):
-    """That, where `words` and `whole` are those of the names of the file's functions alone."""
+    """The result of `for_callers`, where `words` and `whole` are those of the names of the file's
+    functions alone."""
     lines, left = text.split("\n"), set()
     for one in functions(path, text):
         if whole is None:
@@ -134,8 +136,8 @@ def kept_lines(path, text, words, whole):
 
 
 def hidden_here(lines, one, words):
-    """The lines of a function on which nothing rests in functions of its own crate that have these
-    words: all of it where they do not name it, else its body."""
+    """The lines of a function on which functions of its own crate with these words do not depend:
+    all of them if they do not name it, otherwise its body."""
     own = range(one.first - 1, one.last)
     head = next(i for i in own if re.match(r" *(pub(\(crate\))? )?(const )?fn ", lines[i]))
     indent = re.match(" *", lines[head]).group()
@@ -152,13 +154,13 @@ def hidden_here(lines, one, words):
 
 
 def path_of(name, body):
-    """A path for a wrong body of a crate, below the repository, among those of files."""
+    """A path for a wrong body of a crate, below the repository, as for a file."""
     return os.path.join("crates", name, "wrong-bodies", body + ".edit")
 
 
 def edited_names(names, crate):
-    """The names of the functions that wrong bodies edit, or that have to be refused, and the files
-    in which one edits something else."""
+    """The names of the functions that wrong bodies edit or that must be rejected, and the files in
+    which one edits something else."""
     found, files = set(), set()
     for edit in edits_of(crate, names):
         found.update(one.name for one in edit.functions())
@@ -169,8 +171,8 @@ def edited_names(names, crate):
 
 
 def own_texts(name, top, without):
-    """What the wrong bodies of a crate rest on in its own files: themselves and the proofs of the
-    functions that they edit or that have to be refused, and its sources."""
+    """What the wrong bodies of a crate depend on in its own files: the bodies, the proofs of the
+    functions that they edit or that must be rejected, and its sources."""
     crate = os.path.join(top, "crates", name)
     bodies = {one: text for one, text in texts_of(crate).items() if one not in without}
     texts = {os.path.join(top, path_of(name, one)): text for one, text in bodies.items()}
@@ -190,7 +192,7 @@ def own_texts(name, top, without):
             words.update(found.group(1) for line in lines for found in [NAMED.match(line)] if found)
     kept = {}
     for path, text in sources.items():
-        # an attribute names the crate's own proofs and definitions so
+        # this is how an attribute names the crate's own proofs and definitions
         one = for_callers(path, text, words, whole)
         one = re.sub(r"\bcrate::(proofs|specs)::", name + r"::\1::", one)
         if one:
@@ -200,22 +202,22 @@ def own_texts(name, top, without):
 
 
 def parts_of_use(line):
-    """Such a line as what stands before its names, and these: `use a::B;` as `use a::{B};`."""
+    """The two parts of such a line: the text before its names, and the names; `use a::B;` counts as
+    `use a::{B};`."""
     origin, _, listed = line.partition("{") if "{" in line else line.rpartition("::")
     names = [name.strip() for name in listed.rstrip("};\n").split(",")]
     return origin if "{" in line else origin + "::", names
 
 
 def of_names(line, words):
-    """A line of names with those that are among these words; nothing where there are none."""
+    """A line of names, reduced to the names among these words; empty if there are none."""
     origin, names = parts_of_use(line)
     used = [name for name in names if name == "*" or name.split(" ")[-1] in words]
     return "%s{%s};\n" % (origin, ", ".join(used)) if used else ""
 
 
 def of_use(line, text):
-    """Such a line with those of its names, and of its signs, that a text has; nothing where it has
-    none."""
+    """Such a line, reduced to the names and signs that a text has; empty if it has none."""
     if "{" not in line and "::" not in line:
         name = re.split(r"[\s.;]+", line.strip())[-2]
         return line if re.search(r"(?<!\w)%s(?!\w)" % re.escape(name), text) else ""
@@ -231,8 +233,8 @@ def of_use(line, text):
 
 @functools.lru_cache(maxsize=None)
 def modules_named(text, top):
-    """The files of the modules of definitions and of proofs that a text names, as a clause and a
-    proof do, or as an attribute does."""
+    """The files of the modules of definitions and proofs that a text names, in the way of a clause,
+    a proof or an attribute."""
     found = set()
     named = re.findall(r"\b(\w+)\.(specs|proofs)((?:\.\w+)+)", text.replace("::", "."))
     for crate, part, names in named:
@@ -247,12 +249,12 @@ def modules_named(text, top):
 
 
 def modules(text, top):
-    """The modules that a text names, by their paths, without remarks."""
+    """The modules that a text names, by their paths, without comments."""
     return {path: without_remarks(path, text_of(path)) for path in modules_named(text, top)}
 
 
 def files_below(top, *folders):
-    """The files of some folders and of those in them, but for tests."""
+    """The files below some folders, without tests."""
     walks = [one for folder in folders for one in os.walk(os.path.join(top, folder))]
     files = [os.path.join(at, file) for at, _, found in walks for file in found]
     return [path for path in files if not OF_TESTS.search(path)]
@@ -268,14 +270,14 @@ def names_of_logic(top):
 
 @functools.lru_cache(maxsize=None)
 def without_remarks(path, text):
-    """A text with neither remarks nor empty lines, which prove nothing, and no modules of tests."""
+    """A text without comments, empty lines and modules of tests, which do not prove anything."""
     if path.endswith(".rt"):
         text = re.sub(r"#\[cfg\(test\)\]\nmod \w+;\n", "", text)
     return re.sub(r"\n\s*\n+", "\n", re.sub(r"(?m)^ *(//|--).*$", "", text))
 
 
 def covered(name, top=TOP, without=()):
-    """All that the wrong bodies of a crate, but for some, rest on: texts by their paths below
+    """All that the wrong bodies of a crate, except some, depend on: texts by their paths below
     `top`."""
     lines = crate_lines(top)
     others = [one for one in crates_below(name, lines) if one != name]
@@ -286,7 +288,7 @@ def covered(name, top=TOP, without=()):
     for path in own:
         below.pop(path, None)
     below = {path: text for path, text in below.items() if text}
-    # what the wrong bodies and the proofs name, and all that is reached from it
+    # what the wrong bodies and the proofs name, and everything that is reached from it
     for text in [*fixed.values(), *own.values()]:
         below.update(modules(text, top))
     there = reached(below, words, lambda text: modules(text, top), names_of_logic(top))
@@ -296,7 +298,7 @@ def covered(name, top=TOP, without=()):
 
 
 def sum_of(name, top=TOP, body=None):
-    """A sum of all that the wrong bodies of a crate rest on, or one of them."""
+    """A sum of all that the wrong bodies of a crate depend on, or one of them."""
     others = texts_of(os.path.join(top, "crates", name)) if body else ()
     texts = covered(name, top, [one for one in others if one != body])
     version = subprocess.run(["rt", "version"], capture_output=True, check=True, text=True).stdout
@@ -317,7 +319,7 @@ def lines_of(path):
 
 
 def tried(path=TRIED):
-    """The lines of crates whose wrong bodies were all refused, by the names of the crates."""
+    """The lines of crates whose wrong bodies were all rejected, by the names of the crates."""
     return {one: line for one, line in lines_of(path).items() if "/" not in one}
 
 
@@ -327,15 +329,14 @@ def crate_of(word):
 
 
 def bodies_tried(name, path=TRIED):
-    """The sums of those wrong bodies of a crate that were refused, by their names, where each has a
-    line of its own."""
+    """The sums of the rejected wrong bodies of a crate, by their names, if each has a separate
+    line."""
     lines = {one: line for one, line in lines_of(path).items() if one.startswith(name + "/")}
     return {one[len(name) + 1 :]: line.split()[1] for one, line in lines.items()}
 
 
 def write_lines(name, new):
-    """Writes these lines of a crate in the place of those that it has. What is said of a crate that
-    is no longer there goes."""
+    """Replaces the lines of a crate by these. Lines of crates that no longer exist are removed."""
     others, lines = set(crate_lines()) - {name}, lines_of(TRIED)
     kept = {one: line for one, line in lines.items() if crate_of(one) in others}
     kept.update(new)
@@ -344,14 +345,14 @@ def write_lines(name, new):
 
 
 def note_tried(name, count, made):
-    """Notes that so many wrong bodies of a crate, all that it has, were refused."""
+    """Records that all wrong bodies of a crate, `count` of them, were rejected."""
     with WRITING:
         write_lines(name, {name: "%s %d %s\n" % (name, count, made)})
 
 
 def note_bodies(name, sums):
-    """Notes of some wrong bodies of a crate that they were refused, by their names and sums. A line
-    of the crate stays, and so do those of its other bodies."""
+    """Records that some wrong bodies of a crate were rejected, by their names and sums. A line of
+    the whole crate stays, and so do those of its other bodies."""
     with WRITING:
         lines = {one: line for one, line in lines_of(TRIED).items() if crate_of(one) == name}
         for body, made in sums.items():

@@ -13,7 +13,7 @@ PLACES = ("contract", "clause", "code")
 
 
 class BadMap(Exception):
-    """A table that does not lead back without a doubt."""
+    """A table that cannot be reversed with certainty."""
 
 
 class Row:
@@ -40,7 +40,7 @@ class Scope:
         self.everywhere, self.contract, self.clause, self.code = {}, {}, {}, {}
 
     def name(self, token, before, in_contract, kind=".antt"):
-        """The other name for a token behind another one, in a file of this kind."""
+        """The other name for a token that comes after another one, in a file of this kind."""
         places = [self.code]
         if in_contract and before != ".":
             places = [self.clause, self.contract] if kind == ".rt" else [self.contract]
@@ -70,12 +70,12 @@ class Names:
 
     @functools.lru_cache(maxsize=None)
     def old(self, crate):
-        """The old names by the new ones in a crate of this old name."""
+        """The old names by the new ones in a crate with this old name."""
         return self.scope(crate, lambda row: (row.new, row.old))
 
     @functools.lru_cache(maxsize=None)
     def new(self, crate):
-        """The new names by the old ones in a crate of this old name."""
+        """The new names by the old ones in a crate with this old name."""
         return self.scope(crate, lambda row: (row.old, row.new))
 
     def scope(self, crate, pair):
@@ -94,7 +94,7 @@ class Names:
         return {row.new: row.old for row in self.rows if not row.crates and row.place in places}
 
     def old_crate(self, path):
-        """The old name of the crate in which a file lies in the new tree, if it lies in one."""
+        """The old name of the crate of a file in the new tree, if it is in one."""
         parts = path.split(os.sep)
         if parts[0] != "crates" or len(parts) < 2:
             return None

@@ -1,11 +1,12 @@
-"""The tokens of sources, definitions, proofs and edits: what is left of a text without remarks,
-line breaks and the order of imports, which `rt fmt` may change where names change."""
+"""The tokens of sources, definitions, proofs and edits: a text without comments, line breaks and
+the order of imports, which `rt fmt` may change when names change.
+"""
 import os
 import re
 
 STRING = r'"(?:\\[\s\S]|[^"\\])*"'
 LETTER = r"b?'(?:\\[^'\n]+|[^'\\\n])'"
-# a proof's goals are named by words that hyphens join
+# a proof's goals have names with hyphens
 HYPHEN = r"(?P<hyphen>(?<=\w)-(?=\w))"
 SIGNS = r"\.\.=?|[()\[\]{},;.?]|[^\w\s\"'()\[\]{},;.?]+|[\"']"
 TOKEN = {
@@ -17,20 +18,20 @@ REMARK = {
     ".rt": re.compile("(%s|%s)|//[^\n]*" % (STRING, LETTER)),
     ".antt": re.compile(r"(%s)|(?<!\S)--[^\n]*" % STRING),
 }
-# the comma that `rt fmt` puts behind the last part of a list on several lines
+# the comma that `rt fmt` puts after the last part of a list on several lines
 LAST_COMMA = re.compile(r",(?=[ \t]*\n\s*[)\]}>])")
-# what may stand in another order: imports, and lists of modules
+# lines that may be in another order: imports, and lists of modules
 SORTED = {
     ".rt": r"^[ \t]*(?:pub(?:\(\w+\))? |ghost )?(?:use\s[^;]*|mod \w+);[ \t]*\n",
     ".antt": r"^(?:(?:pub|unfoldable)\s+)*(?:use\s[^\n]*(?:\n[ \t}][^\n]*)*|mod [^\n]*)\n",
 }
 WORD = re.compile(r"\w+\Z")
-# what a clause, or another part of a contract in a source, begins with
+# the words that begin a clause, or another part of a contract, in a source
 CLAUSES = {"requires", "ensures", "decreases", "ghost"}
 
 
 def kind_of(path):
-    """How a file is read: what is neither a source nor one of logic is read as an edit is."""
+    """How a file is read: files that are neither sources nor logic are read like edits."""
     kind = os.path.splitext(path)[1]
     return kind if kind in REMARK else ".edit"
 
@@ -45,8 +46,8 @@ def plain_tokens(kind, text):
 
 
 def in_contracts(kind, tokens):
-    """Of each token, whether it is of a contract: of all but in sources, and there in the braces
-    behind one of these words."""
+    """For each token, whether it belongs to a contract: in sources, those in braces after one of
+    these words; in other files, all."""
     if kind != ".rt":
         return [kind == ".antt"] * len(tokens)
     told, depth, begins = [], 0, False
@@ -61,21 +62,21 @@ def in_contracts(kind, tokens):
 
 
 def renamed(kind, tokens, scope):
-    """The tokens with old names in the place of new ones."""
+    """The tokens with old names in place of new ones."""
     before = [""] + tokens[:-1]
     where = in_contracts(kind, tokens)
     return [scope.name(*one, kind) for one in zip(tokens, before, where)]
 
 
 def is_of_contract(tokens):
-    """Whether an import brings in names of contracts, and not those that types of the code have."""
+    """Whether an import brings in names of contracts, not those of types in the code."""
     is_logic = tokens[0] == "ghost" or ";" not in tokens
     return is_logic and "declared" not in tokens and "mod" not in tokens
 
 
 def renamed_import(kind, tokens, scope):
-    """An import with old names in the place of new ones. Where a name was brought in as it is, and
-    now is under another one, this is left out: it leads back to the same."""
+    """An import with old names in place of new ones. If a name was imported unchanged and is now
+    renamed, the renaming is left out, since it maps back to the same name."""
     before, here = [""] + tokens[:-1], is_of_contract(tokens)
     told = [scope.name(one, last, here, ".antt") for one, last in zip(tokens, before)]
     for at in range(len(tokens) - 2):
@@ -85,8 +86,8 @@ def renamed_import(kind, tokens, scope):
 
 
 def import_of(tokens):
-    """An import, or a module of a list, with the names in its braces in one order. Braces inside
-    others are put in order first."""
+    """An import, or a module of a list, with the names in its braces sorted, innermost braces
+    first."""
     parts = [[]]
     for token in tokens:
         if token == "{":
@@ -106,7 +107,7 @@ def import_of(tokens):
 
 
 def imports_of(tokens):
-    """An import of several names of one module as one of each."""
+    """An import of several names of one module, as one import for each."""
     if tokens.count("{") != 1:
         return [import_of(tokens)]
     start, end = tokens.index("{"), tokens.index("}")
@@ -121,8 +122,7 @@ def imports_of(tokens):
 
 
 def tokens_of(path, text, names):
-    """The tokens of a text, with old names in the place of new ones, and consecutive imports in one
-    order."""
+    """The tokens of a text, with old names in place of new ones, and consecutive imports sorted."""
     kind, scope = kind_of(path), names.old(names.old_crate(path))
     if kind == ".edit":
         return renamed(kind, plain_tokens(kind, text), scope)
@@ -141,8 +141,8 @@ def tokens_of(path, text, names):
 
 
 def names_by_place(path, text):
-    """The words of a text that contracts, definitions and proofs name without a path, all others of
-    it and of the path of its file, and all."""
+    """The words of a text that contracts, definitions and proofs name without a path; all other
+    words of it and of the path of its file; and all words."""
     kind = kind_of(path)
     if kind in REMARK:
         text = REMARK[kind].sub(lambda found: found.group(1) or "", text)

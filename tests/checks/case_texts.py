@@ -1,9 +1,10 @@
 #!/usr/bin/env python3
 """Reads the texts of cases back: python3 tests/checks/case_texts.py
 
-Writes and reads (formats/case_text.py) the stored cases, cases with odd words, names and bytes, and
-random cases, and compares them with what was read; and writes the text again and compares that. An
-example must be written as it is printed here, and wrong texts must be rejected at their line."""
+Writes and reads (formats/case_text.py) the stored cases, cases with unusual words, names and bytes,
+and random cases, and compares the result; then writes the text again and compares that. An example
+must be written as it is printed here, and wrong texts must be rejected at their line.
+"""
 import os
 import random
 import sys
@@ -78,9 +79,9 @@ stdout
   | | a
   | \
 """
-# what may be longer than WIDTH: texts, and words and names that are so long
+# what may be longer than WIDTH: texts, and words and names of that length
 TEXTS = ("  | ", "  $'", "    ", "$ radio ", "file ", "made ", "bytes ")
-# what looks like the format, and characters that cannot be seen
+# text that looks like the format, and invisible characters
 MARKS = ["case x", "$ radio log", "  | a", "|", "| ", "status 1", "#", "# a", "= case.ONE", "="]
 MARKS += ["bytes a", "00 * 9", "0a1b", "$'a'", "''", "'", "\\", " \\", "\\n", "\\x41", "$", "  "]
 MARKS += [" ", "", "-", "file a", "stdout is closed", "from x", '"a"', "a\\", "a\tb", "a\r", "\r"]
@@ -138,7 +139,7 @@ WRONG = [
 
 
 def odd_cases():
-    """Each odd text as a word, as a name, and as the bytes of every part."""
+    """Each unusual text as a word, as a name, and as the bytes of every part."""
     marks = [text.encode() for text in MARKS]
     more = [text + b"\n" for text in marks] + [b"a\n" + text for text in marks]
     for number, data in enumerate(SMALL + LARGE + marks + more):
@@ -177,7 +178,7 @@ def drawn_case(draw, number):
 
 
 def check_round_trip(cases, names):
-    """Writes cases and reads them, and writes what was read; gives their number."""
+    """Writes cases, reads them, and writes the result again; returns their number."""
     text = write_cases(cases, names)
     read, read_names = read_cases(text, cases[0].command)
     for one, other in zip(cases, read, strict=True):
@@ -190,7 +191,7 @@ def check_round_trip(cases, names):
 
 
 def check_stored():
-    """Writing what was read of a stored text gives this text."""
+    """Checks that a stored text is written back unchanged."""
     count = 0
     for name in sorted(os.listdir(FOLDER)):
         with open(os.path.join(FOLDER, name), encoding="utf-8", newline="") as file:

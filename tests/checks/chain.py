@@ -1,7 +1,9 @@
-"""Releases a million operations that wait in a chain: tests/checks/chain.py PROGRAM [--count N] [--stack KIB]
+"""Releases a million operations that wait in a chain: tests/checks/chain.py PROGRAM [--count N]
+[--stack KIB]
 
-A log has tracks, each put after the one before, and lacks the first of them, so that all are held. `radio take` then takes the first one, by which all become
-ready one after another. The program has little stack: what goes down a chain by calling itself would run out of it.
+A log has tracks, each placed after the one before, and lacks the first of them, so all are held.
+`radio take` then adds the first one, and all become ready one after another. The program has a
+small stack: a recursion along the chain would overflow it.
 """
 import argparse
 import os
@@ -23,20 +25,30 @@ def run(program, words, stack):
 
 
 def is_told(told, status, last, lines):
-    """Whether a view ends with this line, after so many."""
+    """Whether a view ends with this line, after this many lines."""
     text = told.stdout.split(b"\n")
-    return told.returncode == status and told.stderr == b"" and text[-2:] == [last, b""] and len(text) == lines + 2
+    return (
+        told.returncode == status
+        and told.stderr == b""
+        and text[-2:] == [last, b""]
+        and len(text) == lines + 2
+    )
 
 
 def main():
     parser = argparse.ArgumentParser(description=__doc__.split("\n")[0])
     parser.add_argument("program")
     parser.add_argument("--count", type=int, default=1000000, help="how many operations")
-    parser.add_argument("--stack", type=int, default=1024, help="how much stack the program has, in KiB")
+    parser.add_argument(
+        "--stack", type=int, default=1024, help="how much stack the program has, in KiB"
+    )
     options = parser.parse_args()
     program, count = os.path.abspath(options.program), options.count
     first = logs.add_track((1, logs.A, 1), None, "T")
-    rest = [logs.add_track((number, logs.A, number), (number - 1, logs.A, number - 1), "T") for number in range(2, count + 1)]
+    rest = [
+        logs.add_track((number, logs.A, number), (number - 1, logs.A, number - 1), "T")
+        for number in range(2, count + 1)
+    ]
     with tempfile.TemporaryDirectory() as folder:
         os.chdir(folder)
         with open("held.log", "wb") as file:
@@ -51,7 +63,10 @@ def main():
             (taken.returncode, taken.stdout, taken.stderr) == (0, b"", b""),
             is_told(ready, 0, b"held 0", count),
         ]
-    print("chain: %d operations that wait, each for the one before: %s" % (count - 1, "right" if all(right) else "wrong: view, take, view %s" % right))
+    print(
+        "chain: %d operations that wait, each for the one before: %s"
+        % (count - 1, "right" if all(right) else "wrong: view, take, view %s" % right)
+    )
     return 0 if all(right) else 1
 
 

@@ -1,8 +1,11 @@
 #!/usr/bin/env python3
-"""Tries the completions in bash, zsh and fish, and sets the manual: tests/checks/completions.py PROGRAM
+"""Tries the completions in bash, zsh and fish, and sets the manual:
+tests/checks/completions.py PROGRAM
 
-What is wanted are the commands, words and options that `radio --help` and `radio COMMAND --help` tell. bash and fish are asked for their completions, and zsh
-in a terminal, where they are installed; without them the scripts are read as texts. The page of the manual is set without a warning by man and groff.
+The expected commands, words and options are those of `radio --help` and `radio COMMAND --help`.
+bash and fish are asked for their completions, and zsh is asked in a terminal, if they are
+installed; otherwise the scripts are read as texts. man and groff must set the manual page without a
+warning.
 """
 import os
 import pty
@@ -28,24 +31,29 @@ def told(*words, **more):
 
 
 def section(text, name):
-    """The lines below a heading of a help, to the next empty one."""
+    """The lines below a heading of a help text, up to the next empty line."""
     if "\n%s:\n" % name not in text:
         return []
     return text.split("\n%s:\n" % name)[1].split("\n\n")[0].splitlines()
 
 
 class Command:
-    """A command as its help tells it: its words that are no options, each with the names of which it is one, and its options."""
+    """A command according to its help text: its positional words, each with its possible values,
+    and its options."""
 
     def __init__(self, name, help_text):
         self.name = name
         self.places = []
         for line in section(help_text, "Arguments"):
             names = re.search(r"\[possible values: ([^]]*)\]", line)
-            self.places.append((re.search(r"[A-Z]+", line)[0], names[1].split(", ") if names else []))
+            self.places.append(
+                (re.search(r"[A-Z]+", line)[0], names[1].split(", ") if names else [])
+            )
         lines = section(help_text, "Options")
         self.options = [re.search(r"--[a-z-]+", line)[0] for line in lines]
-        self.valued = [re.search(r"--[a-z-]+", line)[0] for line in lines if re.search(r"--[a-z-]+ <", line)]
+        self.valued = [
+            re.search(r"--[a-z-]+", line)[0] for line in lines if re.search(r"--[a-z-]+ <", line)
+        ]
 
 
 def commands_of(program):
@@ -57,11 +65,13 @@ def commands_of(program):
 def same(wanted, found, line):
     global ASKED
     ASKED += 1
-    assert sorted(found) == sorted(wanted), "%r is completed by %s, not by %s" % (line, sorted(found), sorted(wanted))
+    assert sorted(found) == sorted(wanted), (
+        "%r is completed by %s, not by %s" % (line, sorted(found), sorted(wanted))
+    )
 
 
 def questions(names, commands):
-    """Lines whose last word is completed, and by what."""
+    """Lines whose last word is completed, and the expected completions."""
     yield ["radio", ""], names
     yield ["radio", "--"], ALWAYS + ["--version"]
     yield ["radio", "--why", "vi"], ["view"]
@@ -70,18 +80,25 @@ def questions(names, commands):
         yield ["radio", command.name, "--"], command.options
         yield ["radio", "--why", command.name, "--wh"], ["--why"]
         for option in command.valued:
-            yield ["radio", command.name, option, "7", option[:4]], [one for one in command.options if one.startswith(option[:4])]
+            yield (
+                ["radio", command.name, option, "7", option[:4]],
+                [one for one in command.options if one.startswith(option[:4])],
+            )
         before = []
         for place, values in command.places:
             if values:
                 yield ["radio", command.name, *before, ""], values
-                yield ["radio", command.name, *before, values[-1][:2]], [one for one in values if one.startswith(values[-1][:2])]
+                yield (
+                    ["radio", command.name, *before, values[-1][:2]],
+                    [one for one in values if one.startswith(values[-1][:2])],
+                )
                 yield ["radio", "--why", command.name, "--help", *before, ""], values
                 yield ["radio", command.name, "--", *before, ""], values
             before.append("x")
 
 
-BASH = """source "$1"; shift; COMP_WORDS=("$@"); COMP_CWORD=$((${#COMP_WORDS[@]} - 1)); _radio; printf '%s\\n' "${COMPREPLY[@]}" """
+BASH = """source "$1"; shift; COMP_WORDS=("$@"); COMP_CWORD=$((${#COMP_WORDS[@]} - 1)); _radio; \
+printf '%s\\n' "${COMPREPLY[@]}" """
 
 
 def ask_bash(script, names, commands):
@@ -89,7 +106,12 @@ def ask_bash(script, names, commands):
     for words, wanted in questions(names, commands):
         same(wanted, told("bash", "-c", BASH, "bash", script, *words).split(), words)
     # names of files are left to the shell
-    for words in (["radio", "view", "x"], ["radio", "render", "--rate", ""], ["radio", "render", "--rate", "=", "4"], ["radio", "view", "--", "--w"]):
+    for words in (
+        ["radio", "view", "x"],
+        ["radio", "render", "--rate", ""],
+        ["radio", "render", "--rate", "=", "4"],
+        ["radio", "view", "--", "--w"],
+    ):
         same([], told("bash", "-c", BASH, "bash", script, *words).split(), words)
 
 
@@ -103,7 +125,8 @@ def ask_fish(script, names, commands):
 
 
 class Terminal:
-    """zsh in a terminal, which completes what is typed. What it shows has come where nothing follows for some seconds."""
+    """zsh in a terminal, which completes the typed text. Its output is complete when nothing
+    follows for some seconds."""
 
     def __init__(self, folder, seconds):
         self.seconds = seconds
@@ -111,7 +134,10 @@ class Terminal:
         if self.pid == 0:
             os.environ.update(TERM="dumb", HOME=folder)
             os.execvp("zsh", ["zsh", "-f", "-i"])
-        self.say("stty cols 200 rows 100; PS1='%s'; fpath=('%s' $fpath); autoload -U compinit; compinit -u -D; LISTMAX=0; unsetopt beep list_beep\n" % (PROMPT, folder))
+        self.say(
+            "stty cols 200 rows 100; PS1='%s'; fpath=('%s' $fpath); autoload -U compinit; compinit "
+            "-u -D; LISTMAX=0; unsetopt beep list_beep\n" % (PROMPT, folder)
+        )
         self.say("zstyle ':completion:*' verbose no\n")
 
     def say(self, text):
@@ -135,7 +161,7 @@ class Terminal:
 
 
 def type_in(terminal, names, commands):
-    """Types some lines, and looks what they are completed by."""
+    """Types some lines, and checks their completions."""
     same(names, terminal.completed("radio "), "radio ")
     same(["render"], terminal.completed("radio ren"), "radio ren")
     render = next(command for command in commands if command.name == "render")
@@ -151,7 +177,7 @@ def type_in(terminal, names, commands):
 def ask_zsh(script, names, commands, folder):
     told("zsh", "-n", script)
     shutil.copy(script, os.path.join(folder, "_radio"))
-    # on a machine that has much to do it is given more time
+    # a busy machine gets more time
     for seconds in (0.5, 2, 8):
         terminal = Terminal(folder, seconds)
         try:
@@ -164,7 +190,7 @@ def ask_zsh(script, names, commands, folder):
 
 
 def read_arms(text, commands, head, tail, form):
-    """That each option of a command stands in its part of a text."""
+    """Checks that each option of a command is in the command's part of a text."""
     global ASKED
     for command in commands:
         arm = text.split(head % command.name)[1].split(tail)[0]
@@ -174,14 +200,19 @@ def read_arms(text, commands, head, tail, form):
 
 
 def roff(text):
-    return text.replace("\\", "\\e").replace("-", "\\-").replace(".", "\\&.").replace("'", "\\(aq").replace("`", "\\(ga")
+    return text.replace(
+        "\\", "\\e"
+    ).replace("-", "\\-").replace(".", "\\&.").replace("'", "\\(aq").replace("`", "\\(ga")
 
 
 def ask_page(page, program, commands):
-    """That the page has each command with its words, its options and their help, and that it is set without a warning."""
+    """Checks that the page has each command with its words, its options and their help, and that it
+    is set without a warning."""
     global ASKED
     sections = re.findall(r"^\.SH (.*)$", page, re.M)
-    assert sections == ["NAME", "SYNOPSIS", "DESCRIPTION", "OPTIONS", "COMMANDS", "EXIT STATUS", "EXAMPLES"], sections
+    assert sections == [
+        "NAME", "SYNOPSIS", "DESCRIPTION", "OPTIONS", "COMMANDS", "EXIT STATUS", "EXAMPLES"
+    ], sections
     everywhere = page.split(".SH OPTIONS")[1].split(".SH COMMANDS")[0]
     for command in commands:
         part = page.split(".SS radio %s " % roff(command.name))[1].split("\n.S")[0]
@@ -189,7 +220,9 @@ def ask_page(page, program, commands):
             assert ".TP\n\\fI%s\\fR\n" % word in part, (command.name, word)
         for option in command.options:
             ASKED += 1
-            assert "\\fB%s\\fR" % roff(option) in (everywhere if option in ALWAYS else part), (command.name, option)
+            assert "\\fB%s\\fR" % roff(option) in (everywhere if option in ALWAYS else part), (
+                command.name, option
+            )
         text = told(program, command.name, "--help")
         for line in section(text, "Arguments") + section(text, "Options"):
             help_text = re.split(r"  +", line.strip())[-1].removesuffix(' [default: ""]')
@@ -197,14 +230,27 @@ def ask_page(page, program, commands):
         example = re.search(r"^Example: (.*)$", text, re.M)[1]
         assert "\\fB%s\\fR\n" % roff(example) in page.split(".SH EXAMPLES")[1], example
     for line in page.splitlines():
-        assert line and not line.startswith("'") and (not line.startswith(".") or re.match(r"\.(TH|SH|SS|TP|PP|B|I|RI|br|nh|ad)\b", line)), line
+        assert (
+            line
+            and not line.startswith("'")
+            and (
+                not line.startswith(".") or re.match(r"\.(TH|SH|SS|TP|PP|B|I|RI|br|nh|ad)\b", line)
+            )
+        ), line
 
 
 def set_page(name):
     if shutil.which("man"):
-        done = subprocess.run(["man", "--warnings", "-E", "UTF-8", "-l", name], capture_output=True, env=dict(os.environ, MANWIDTH="80", LC_ALL="C.UTF-8", MANROFFSEQ="", MANPAGER="cat"))
+        done = subprocess.run(
+            ["man", "--warnings", "-E", "UTF-8", "-l", name],
+            capture_output=True,
+            env=dict(os.environ, MANWIDTH="80", LC_ALL="C.UTF-8", MANROFFSEQ="", MANPAGER="cat"),
+        )
         assert done.returncode == 0 and done.stderr == b"", done.stderr.decode()
-        assert b"RADIO(1)" in done.stdout and b"radio find [OPTIONS] LOG KIND WHAT" in re.sub(rb".\x08", b"", done.stdout), done.stdout
+        assert (
+            b"RADIO(1)" in done.stdout
+            and b"radio find [OPTIONS] LOG KIND WHAT" in re.sub(rb".\x08", b"", done.stdout)
+        ), done.stdout
     if shutil.which("groff"):
         done = subprocess.run(["groff", "-man", "-ww", "-Tutf8", name], capture_output=True)
         assert done.returncode == 0 and done.stderr == b"", done.stderr.decode()
@@ -213,7 +259,10 @@ def set_page(name):
 def main():
     program = os.path.abspath(sys.argv[1])
     names, commands = commands_of(program)
-    assert len(commands) == len(names) - 1 and all(set(ALWAYS) <= set(command.options) for command in commands)
+    assert (
+        len(commands) == len(names) - 1
+        and all(set(ALWAYS) <= set(command.options) for command in commands)
+    )
     folder = tempfile.mkdtemp()
     try:
         texts = {}
@@ -224,11 +273,19 @@ def main():
         page = told(program, "man")
         with open(os.path.join(folder, "radio.1"), "w") as file:
             file.write(page)
-        read_arms(texts["bash"], commands, "\n        %s)\n", ";;\n", lambda option: " " + option if option not in ALWAYS else "options")
+        read_arms(
+            texts["bash"],
+            commands,
+            "\n        %s)\n",
+            ";;\n",
+            lambda option: " " + option if option not in ALWAYS else "options",
+        )
         read_arms(texts["zsh"], commands, "\n        %s)\n", ";;\n", lambda option: "'%s" % option)
         for command in commands:
             for option in command.options:
-                assert "__radio_at \"%s\"' -l %s " % (command.name, option[2:]) in texts["fish"], (command.name, option)
+                assert "__radio_at \"%s\"' -l %s " % (command.name, option[2:]) in texts["fish"], (
+                    command.name, option
+                )
         ask_page(page, program, commands)
         set_page(os.path.join(folder, "radio.1"))
         there = [shell for shell in SHELLS if shutil.which(shell)]
@@ -241,7 +298,11 @@ def main():
     finally:
         shutil.rmtree(folder)
     lacking = [one for one in (*SHELLS, "man", "groff") if not shutil.which(one)]
-    print("%d commands in three scripts and a page of the manual, %d questions answered" % (len(commands), ASKED) + (", without " + ", ".join(lacking) if lacking else ""))
+    print(
+        "%d commands in three scripts and a page of the manual, %d questions answered"
+        % (len(commands), ASKED)
+        + (", without " + ", ".join(lacking) if lacking else "")
+    )
 
 
 main()

@@ -1,16 +1,21 @@
 #!/usr/bin/env python3
 """Runs the examples of the libraries: tests/checks/examples.py [CRATE]...
 
-The first page of each library, the `//!` lines at the head of its src/lib.rt, has an example: a block that begins with ```rust, whole items with the
-`use` lines that they need, among them a function `fn NAME(rt: HostRuntime) -> Result<(), Fail>` that asserts what the text says. The script
-copies the crates into a folder of its own, makes one crate of all examples there, a module for each, in which these functions are tests,
-and runs it by `rt try --test`; with names it runs those of these crates alone.
+The documentation of each library, the `//!` lines at the beginning of its src/lib.rt, has an
+example: a block that begins with
+```rust. It has whole items with the `use` lines that they need, among them a function `fn NAME(rt:
+HostRuntime) -> Result<(), Fail>` that asserts what the text says. The script copies the crates into
+a temporary folder, makes one crate of all examples there, with a module for each, in which these
+functions are tests, and runs it with `rt try --test`. With names, it runs only the examples of
+these crates.
 
-It fails where an example does not compile, asserts nothing, uses a library that crates.txt does not list above its own, or fails when it
-runs, and where a library (a crate of crates.txt that is no program, and no crate of tests) has none.
+It fails if an example does not compile, asserts nothing, uses a library that crates.txt does not
+list above its own, or fails when it runs. It also fails if a library has no example; a library is a
+crate of crates.txt that is neither a program nor a crate of tests.
 
-Examples are run and not proved: that a caller's proof has what it needs from the contracts is not shown, and a call that breaks a `requires`
-may pass. Each runs once, with ample memory and without optimisation, and only what it asserts is compared.
+Examples are run and not proved. So this check does not show that the contracts are enough for a
+caller's proof, and a call that violates a `requires` may pass. Each example runs once, with enough
+memory and without optimisation, and only its assertions are checked.
 """
 import os
 import re
@@ -24,10 +29,17 @@ CRATE = "libraries_by_example"
 
 
 def libraries():
-    """The names of the crates that are no program and no crate of tests, in the order of crates.txt."""
+    """The names of the libraries in the order of crates.txt: all crates but programs and crates of
+    tests."""
     with open(os.path.join(TOP, "crates.txt")) as file:
-        names = [line.split(":")[0].strip() for line in file if ":" in line and not line.startswith("#")]
-    return [name for name in names if not is_of_tests(name) and not os.path.exists(file_of(name, "main.rt"))]
+        names = [
+            line.split(":")[0].strip() for line in file if ":" in line and not line.startswith("#")
+        ]
+    return [
+        name
+        for name in names
+        if not is_of_tests(name) and not os.path.exists(file_of(name, "main.rt"))
+    ]
 
 
 def is_of_tests(name):
@@ -39,12 +51,14 @@ def file_of(name, file):
     return os.path.join(TOP, "crates", name, "src", file)
 
 
-# What makes a function of an example a test. The pages leave the attribute out: a crate with it, in a comment too, is taken for one with tests.
+# What makes a function of an example a test. The documentation leaves the attribute out: a crate
+# with it, even in a comment, counts as one with tests.
 HEAD = re.compile(r"^fn (\w+)\(rt: HostRuntime\) -> Result<\(\), Fail> \{$", re.M)
 
 
 def examples_of(name):
-    """The blocks of a library's first page, each as its lines, with its functions marked as tests."""
+    """The blocks in a library's documentation, each as its lines, with its functions marked as
+    tests."""
     blocks, block = [], None
     with open(file_of(name, "lib.rt")) as file:
         for line in file:
@@ -62,7 +76,8 @@ def examples_of(name):
 
 
 def fault_of(block, below):
-    """Why an example is not run, if it is not: these are the libraries that it may use."""
+    """The reason why an example cannot be run, if there is one. `below` are the libraries that it
+    may use."""
     text = "\n".join(block)
     if not HEAD.search(text):
         return "has no function that is a test"
@@ -78,7 +93,11 @@ def make_crate(folder, names):
     """Copies the libraries, and makes the folder of the crate of examples."""
     crates = os.path.join(folder, "crates")
     for name in names:
-        shutil.copytree(os.path.join(TOP, "crates", name), os.path.join(crates, name), ignore=shutil.ignore_patterns("out"))
+        shutil.copytree(
+            os.path.join(TOP, "crates", name),
+            os.path.join(crates, name),
+            ignore=shutil.ignore_patterns("out"),
+        )
     shutil.copy(os.path.join(TOP, "HANDLES"), folder)
     with open(os.path.join(TOP, "crates.txt")) as file:
         lines = [line for line in file if line.split(":")[0] in names]
@@ -88,7 +107,8 @@ def make_crate(folder, names):
 
 
 def run(here, modules):
-    """Writes the modules and runs them: which of them passed and which did not, and all that was printed."""
+    """Writes the modules and runs them; returns which of them passed, which did not, and the
+    output."""
     shutil.rmtree(os.path.join(here, "src"), ignore_errors=True)
     os.makedirs(os.path.join(here, "src"))
     with open(os.path.join(here, "src", "lib.rt"), "w") as file:
@@ -97,9 +117,18 @@ def run(here, modules):
     for module, block in modules.items():
         with open(os.path.join(here, "src", module + ".rt"), "w") as file:
             file.write("\n".join(block) + "\n")
-    done = subprocess.run(["rt", "try", "--test"], cwd=here, stdout=subprocess.PIPE, stderr=subprocess.STDOUT, text=True)
+    done = subprocess.run(
+        ["rt", "try", "--test"],
+        cwd=here,
+        stdout=subprocess.PIPE,
+        stderr=subprocess.STDOUT,
+        text=True,
+    )
     ran = re.findall(r"^test (\w+)::\S+ \.\.\. (\w+)", done.stdout, re.M)
-    return {module: all(word == "ok" for other, word in ran if other == module) for module, _ in ran}, done.stdout
+    return (
+        {module: all(word == "ok" for other, word in ran if other == module) for module, _ in ran},
+        done.stdout,
+    )
 
 
 def main(words):
@@ -129,14 +158,19 @@ def main(words):
             results.update(found)
             count += len(found)
             if found:
-                # tests that were not reached, since one before them stopped the program
-                modules = {module: block for module, block in modules.items() if module not in found}
+                # tests that were not reached, because an earlier one stopped the program
+                modules = {
+                    module: block for module, block in modules.items() if module not in found
+                }
                 if False in found.values() or modules:
                     print(text)
                 continue
-            # what does not compile is named; the others are tried without it
+            # examples that do not compile are reported; the others are tried without them
             print(text)
-            named = [module for module in modules if re.search(r"\b%s\b" % module, text)] or list(modules)
+            named = (
+                [module for module in modules if re.search(r"\b%s\b" % module, text)]
+                or list(modules)
+            )
             for module in named:
                 results[module] = False
                 del modules[module]

@@ -1,12 +1,13 @@
 #!/usr/bin/env python3
 """Merges logs in git, in three clones: tests/checks/git.py PROGRAM
 
-Follows docs/use/git.md with real git: `radio merge` as merge driver and `radio log` as textconv.
-Three clones edit, pull and push for some rounds, one of them by rebasing, and end with one log,
-byte for byte the union that `radio merge` writes of what each of them made. Where one editor has
+Follows docs/use/git.md with real git: `radio merge` is the merge driver and `radio log` is the
+textconv. Three clones edit, pull and push for some rounds, one of them by rebasing. They end with
+one log, byte for byte the union that `radio merge` writes of all their edits. If an editor has
 edited an old copy again, the merge stops and both versions are kept. A clone without the driver
-gets a conflict, and its log stays as it is. `git diff` and `git log -p` show lines of `radio
-log`. Git sees no configuration but that of a temporary folder."""
+gets a conflict, and its log stays unchanged. `git diff` and `git log -p` show the lines of
+`radio log`. The only git configuration is that of a temporary folder.
+"""
 import os
 import re
 import shutil
@@ -22,7 +23,7 @@ PLACE = "1.1.00000000-0000-0000-0000-00000000000a"
 
 
 class Failed(Exception):
-    """What is not as it should be."""
+    """A check that failed."""
 
 
 def want(right, what):
@@ -62,7 +63,7 @@ class Clone:
             return file.read()
 
     def edit(self, *lines):
-        """Edits the log as this clone's editor, and commits that."""
+        """Edits the log as this clone's editor, and commits it."""
         with open(os.path.join(self.folder, ".git", "script"), "w") as file:
             file.write("".join(line + "\n" for line in lines))
         name = "00000000-0000-0000-0000-%012x" % self.editor
@@ -76,7 +77,7 @@ class Clone:
 
 
 class World:
-    """A folder with a shared repository, and git's only configuration."""
+    """A folder with a shared repository and the only git configuration."""
 
     def __init__(self, folder, program):
         self.folder = folder
@@ -104,7 +105,7 @@ class World:
         return made
 
     def begin(self):
-        """The first clone, whose log of one marker all others begin with."""
+        """The first clone, whose log of one marker all others start with."""
         self.git("init", "-q", "--bare", "shared")
         first = self.clone("first", 10, driver=False)
         told = first.run("sh", "-ec", set_up())
@@ -142,7 +143,7 @@ def three_editors(world, first):
 
 
 def shows_lines(first):
-    """`git diff` and `git log -p` show what `radio log` says."""
+    """Checks that `git diff` and `git log -p` show the lines of `radio log`."""
     script = os.path.join(first.folder, ".git", "script")
     with open(script, "w") as file:
         file.write("add-marker 960 Weather\n")
@@ -174,7 +175,7 @@ def conflict_of(clone, theirs, what):
 
 
 def one_name_twice(world, first):
-    """The first editor edits, sets the clone back, and edits again: both edits get one name."""
+    """The first editor edits, resets the clone, and edits again: both edits get the same stamp."""
     other = world.clone("fourth", 13)
     first.edit("add-marker 1000 Sport")
     first.git("push", "-q")
@@ -189,7 +190,7 @@ def one_name_twice(world, first):
 
 
 def without_the_driver(world, first):
-    """A clone that knows no driver gets a conflict, and its log stays whole."""
+    """A clone without the driver gets a conflict, and its log stays whole."""
     bare = world.clone("fifth", 14, driver=False)
     first.edit("add-marker 3000 Culture")
     first.git("push", "-q")

@@ -1,13 +1,13 @@
 #!/usr/bin/env python3
 """Installs the program and removes it: tests/checks/install.py PROGRAM
 
-Runs `install.sh` in a copy of the tree, below a prefix with a space in its name. What it
-installs has to run and to be what the program prints; what it removes has to leave all as it was
-before. A `radio` of somebody else stays, and so does a file that was changed since. Where a step
-fails (a full disk, a signal, a place that cannot be made, a program that fails), all is as it
-was before. Of the two builds the quick one is taken where it runs. At last `packaging/deb.sh`
-builds the package twice, to the same bytes, and dpkg installs and removes it in a folder of its
-own."""
+Runs `install.sh` in a copy of the tree, with a prefix that has a space in its name. The installed
+files must run and match what the program prints; removing them must restore the former state. A
+`radio` of another origin stays, and so does a file that was changed since. If a step fails (a full
+disk, a signal, a place that cannot be made, a program that fails), nothing has changed. The quick
+build is installed if it runs. Finally, `packaging/deb.sh` builds the package twice, with equal
+bytes, and dpkg installs and removes it in a separate folder.
+"""
 import os
 import shutil
 import subprocess
@@ -26,7 +26,7 @@ MAN = "share/man/man1/radio.1"
 
 
 class Failed(Exception):
-    """What is not as it should be."""
+    """A check that failed."""
 
 
 def want(right, what):
@@ -53,7 +53,7 @@ def write(path, text, mode=0o644):
 
 
 def tree_of(top):
-    """All that is below a folder: the kind, the permissions and the content of each."""
+    """Everything below a folder: the kind, the permissions and the content of each entry."""
     found = {}
     for at, folders, files in os.walk(top):
         for name in folders + files:
@@ -64,7 +64,8 @@ def tree_of(top):
 
 
 class Place:
-    """A copy of what installs, with the program where a build puts it, and a prefix."""
+    """A copy of the files that are installed, with the program where a build puts it, and a
+    prefix."""
 
     def __init__(self, folder, program):
         self.folder, self.program = folder, program
@@ -81,13 +82,13 @@ class Place:
         return run("sh", os.path.join(self.tree, "install.sh"), *words, env=env)
 
     def begin(self):
-        """A prefix that has files of others."""
+        """A prefix that has other files."""
         shutil.rmtree(self.prefix, ignore_errors=True)
         write(os.path.join(self.prefix, "bin", "other"), "#!/bin/sh\n", 0o755)
         write(os.path.join(self.prefix, "share", "man", "man1", "other.1"), "other\n")
 
     def installed(self, *words):
-        """Installs, which has to be done."""
+        """Installs, which must succeed."""
         status, output, errors = self.sh(*words, self.prefix)
         want(status == 0 and not errors, "install.sh: status %d, %s" % (status, errors))
         return output.decode()
@@ -117,7 +118,7 @@ def installs_and_removes(place):
 
 
 def makes_and_removes_its_folders(place):
-    """Where there is no folder yet, none is left; with DESTDIR, all is below it."""
+    """A folder that did not exist before is removed again; with DESTDIR, everything is below it."""
     shutil.rmtree(place.prefix)
     place.installed()
     want(place.sh("--uninstall", place.prefix)[0] == 0, "it is not removed")
@@ -133,7 +134,7 @@ def makes_and_removes_its_folders(place):
 
 
 def leaves_others(place):
-    """A `radio`, or another of its files, that is somebody else's, and one that was changed."""
+    """A `radio`, or another of its files, of another origin; and a file that was changed."""
     for name in ["bin/radio", MAN, *SHELLS.values()]:
         place.begin()
         write(place.at(name), "#!/bin/sh\necho another\n", 0o755)
@@ -155,7 +156,7 @@ def leaves_others(place):
 
 
 def failing(folder, name, nth, how):
-    """A folder for the PATH whose program of this name fails the nth time."""
+    """A folder for the PATH whose program with this name fails the nth time."""
     place = os.path.join(folder, "failing")
     shutil.rmtree(place, ignore_errors=True)
     count = os.path.join(place, "count")
@@ -166,7 +167,7 @@ def failing(folder, name, nth, how):
 
 
 def leaves_no_half(place):
-    """Each step fails in turn, in a prefix with an older install and in one with none."""
+    """Each step fails in turn, in a prefix with an older install and in one without."""
     trials = 0
     steps = [("mv", (1, 2, 4, 7)), ("ln", (1, 4)), ("mkdir", (7, 9)), ("cp", (1, 3, 7, 8))]
     ways = ["exit 1", "kill -TERM $PPID; sleep 0.1; exit 1"]
@@ -184,7 +185,7 @@ def leaves_no_half(place):
                     place.folder, name, nth, ways[nth % 2]))[0]
                 after = tree_of(place.prefix)
                 if status == 0:
-                    # so often it was not called
+                    # it was called fewer times
                     place.sh("--uninstall", place.prefix)
                     return_to(place, older)
                     continue
@@ -204,7 +205,8 @@ def return_to(place, older):
 
 
 def stops_early(place):
-    """A full disk, a place that cannot be made, and a program that fails leave all as it was."""
+    """A full disk, a place that cannot be made, and a failing program leave everything
+    unchanged."""
     place.begin()
     before = tree_of(place.prefix)
     script = os.path.join(place.tree, "install.sh")
@@ -224,7 +226,7 @@ def stops_early(place):
 
 
 def takes_the_quick_build(place):
-    """The quick build where it runs and is of the same version, else the plain one."""
+    """The quick build if it runs and has the same version, otherwise the plain one."""
     quick = "#!/bin/sh\n# quick\nexec '%s' \"$@\"\n" % place.program
     for text, words, is_taken in (
             (quick, [], True), (quick, ["--plain"], False), ("#!/bin/sh\nexit 127\n", [], False),
@@ -238,7 +240,7 @@ def takes_the_quick_build(place):
 
 
 def builds_a_package(place):
-    """The package is the same bytes twice; dpkg installs and removes it."""
+    """The package has equal bytes twice; dpkg installs and removes it."""
     made = []
     for name in ("one", "two"):
         out = os.path.join(place.folder, name)
@@ -263,7 +265,7 @@ def dpkg(root, *words):
 
 
 def installs_the_package(place, package):
-    """Whether dpkg could try."""
+    """Whether dpkg could be tried."""
     root = os.path.join(place.folder, "root")
     for name in ("info", "updates", "triggers"):
         os.makedirs(os.path.join(root, "var/lib/dpkg", name))

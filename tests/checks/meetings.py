@@ -1,11 +1,15 @@
 #!/usr/bin/env python3
 """Lets two processes exchange operations: python3 tests/checks/meetings.py PROGRAM
 
-`radio serve` and `radio meet` over loopback on logs of several sizes with what they share: both end with the union, byte for byte as
-`radio merge` gives it, and what `have`, `lack` and `take` do by files gives the same. Then peers that cut, that send one byte at a
-time, that send what is no message: a clear status, and the files that were there whole; a meeting of which one side is killed at
-a random moment, which a second meeting completes; an OUT that neither side can make after the meeting, which is told at both; ends that wait no longer
-than is said; and one who serves many in turn, edits made meanwhile going along, whom callers that say garbage or nothing do not end.
+Runs `radio serve` and `radio meet` over loopback, on logs of several sizes with common operations:
+both end with the union, byte for byte as `radio merge` writes it, and `have`, `lack` and `take`
+give the same with files.
+
+Then it tries peers that hang up, that send one byte at a time, or that send something that is no
+message: the status is right, and the existing files stay whole. One side of a meeting is killed at
+a random moment, and a second meeting completes the exchange. An OUT that cannot be made after the
+meeting is reported at both sides. Ends wait no longer than given. A server with --many includes
+edits that are made between its meetings, and goes on after callers that send garbage or nothing.
 """
 import os
 import random
@@ -26,7 +30,9 @@ ONLY_A, ONLY_B = 20, 21
 
 
 def markers(replica, count, size=8):
-    return [add_marker((number, replica, number), number, "m" * size) for number in range(1, count + 1)]
+    return [
+        add_marker((number, replica, number), number, "m" * size) for number in range(1, count + 1)
+    ]
 
 
 def free_port():
@@ -57,10 +63,16 @@ class Desk:
         return {name: self.bytes_of(name) for name in os.listdir(self.folder)}
 
     def start(self, *words):
-        return subprocess.Popen([self.program, *words], cwd=self.folder, stdout=subprocess.PIPE, stderr=subprocess.PIPE, text=True)
+        return subprocess.Popen(
+            [self.program, *words],
+            cwd=self.folder,
+            stdout=subprocess.PIPE,
+            stderr=subprocess.PIPE,
+            text=True,
+        )
 
     def run(self, *words):
-        """The refusal's number, or none."""
+        """The error number, or None."""
         child = self.start(*words)
         output, errors = child.communicate(timeout=120)
         assert output == "" or words[0] in ("view", "edit"), output
@@ -68,7 +80,7 @@ class Desk:
         return int(errors.rsplit(" ", 1)[1]) if errors else None
 
     def serving(self, out="left.new", *flags):
-        """One who serves the left log, and the port at which it waits."""
+        """A server of the left log, and the port at which it waits."""
         port = free_port()
         child = self.start("serve", *flags, "127.0.0.1:%d" % port, "left", out)
         for _ in range(500):
@@ -82,9 +94,12 @@ class Desk:
 
 
 def listens(port):
-    """Whether a socket waits at this port, asked without calling there."""
+    """Whether a socket waits at this port, found out without connecting."""
     with open("/proc/net/tcp") as file:
-        return any(line.split()[1].endswith(":%04X" % port) and line.split()[3] == "0A" for line in file.readlines()[1:])
+        return any(
+            line.split()[1].endswith(":%04X" % port) and line.split()[3] == "0A"
+            for line in file.readlines()[1:]
+        )
 
 
 def told(child):
@@ -94,7 +109,7 @@ def told(child):
 
 
 def meet(desk):
-    """Both sides' refusals."""
+    """The error numbers of both sides."""
     child, port = desk.serving()
     mine = desk.run("meet", "127.0.0.1:%d" % port, "right", "right.new")
     return told(child), mine
@@ -115,7 +130,7 @@ def check_meeting(program, left, right):
 
 
 def caller(port, pieces, read=True):
-    """A caller that sends these pieces and then hangs up; what it was sent."""
+    """A caller that sends these pieces and then hangs up; returns what it received."""
     heard = b""
     with socket.create_connection(("127.0.0.1", port)) as line:
         try:
@@ -132,7 +147,8 @@ def caller(port, pieces, read=True):
 
 
 def check_peer(program, pieces, wanted, left):
-    """One who serves `left` and is called by a peer that sends these pieces ends with one of these statuses."""
+    """A server of `left` that is called by a peer that sends these pieces ends with one of these
+    statuses."""
     desk = Desk(program, left, [])
     before = desk.bytes_of("left")
     child, port = desk.serving("left")
@@ -159,7 +175,7 @@ def check_killed(program, seed):
             try:
                 one.communicate(timeout=2)
             except subprocess.TimeoutExpired:
-                # nobody ever called the one that serves
+                # nobody called the server
                 one.kill()
                 one.communicate()
     for one in (child, other):
@@ -177,7 +193,8 @@ def check_killed(program, seed):
 
 
 def check_refused_outputs(program):
-    """OUT is made after the conversation: where its part is there, or its folder is not, both ends are refused (37), and each file is as it was."""
+    """OUT is made after the conversation: if its part exists already, or its folder does not, both
+    ends fail (37), and no file is changed."""
     outputs = [("left", "right"), ("left.new", "right.new"), ("no/left", "no/right")]
     for out, other in outputs:
         desk = Desk(program, markers(A, 3), markers(B, 2))
@@ -195,7 +212,7 @@ def check_refused_outputs(program):
 
 
 def check_waits(program):
-    """Ends that wait a second: for one to come, or to call, and for what the other end says."""
+    """Ends that wait a second: for a caller, for a server, and for the bytes of the other end."""
     desk = Desk(program, markers(A, 3), markers(B, 2))
     began = time.monotonic()
     child, _ = desk.serving("left.new", "--wait", "1")
@@ -206,11 +223,16 @@ def check_waits(program):
     with socket.socket() as silent:
         silent.bind(("127.0.0.1", 0))
         silent.listen()
-        assert desk.run("meet", "--wait", "1", "127.0.0.1:%d" % silent.getsockname()[1], "right", "right.new") == 45
+        assert desk.run(
+            "meet", "--wait", "1", "127.0.0.1:%d" % silent.getsockname()[1], "right", "right.new"
+        ) == 45
     assert time.monotonic() - began < 60
-    # what answers in time is not ended
+    # a peer that answers in time is not cut off
     child, port = desk.serving("left.new", "--wait", "20")
-    assert desk.run("meet", "--wait", "20", "127.0.0.1:%d" % port, "right", "right.new") is None and told(child) is None
+    assert (
+        desk.run("meet", "--wait", "20", "127.0.0.1:%d" % port, "right", "right.new") is None
+        and told(child) is None
+    )
     assert desk.bytes_of("left.new") == log(markers(A, 3) + markers(B, 2))
     for wait in ("0", "x", ""):
         child = desk.start("serve", "--wait", wait, "127.0.0.1:0", "left", "left.new")
@@ -224,8 +246,9 @@ EDITOR = "00000000-0000-0000-0000-%012x"
 
 
 def check_many(program):
-    """One who serves three in turn, into its own log: an edit that is made between meetings goes along, and so does what came before; a caller that says
-    garbage, and one that says nothing and hangs up, are told and not counted."""
+    """A server of three callers in turn, with its own log: edits that are made between meetings are
+    included, as are the operations of earlier meetings. A caller that sends garbage, and one that
+    sends nothing and hangs up, are reported and not counted."""
     desk = Desk(program, markers(A, 3), markers(B, 2))
     child, port = desk.serving("left", "--why", "--meetings", "3")
     address = "127.0.0.1:%d" % port
@@ -246,7 +269,7 @@ def check_many(program):
     assert errors == "radio: fault 40\n" + why + "radio: fault 49\n" + why, errors
     assert desk.bytes_of("left") == desk.bytes_of("third") == desk.bytes_of("right")
     assert b"Meanwhile" in desk.bytes_of("left")
-    # without --why nothing is told of them; and what is refused for another cause ends it
+    # without --why they are not reported; and a failure for another reason ends the server
     child, port = desk.serving("left", "--meetings", "0")
     caller(port, [b"\0" * 64])
     assert desk.run("meet", "127.0.0.1:%d" % port, "right", "right") is None
@@ -271,17 +294,33 @@ def main():
     program = os.path.abspath(sys.argv[1])
     sizes = [(0, 0, 0), (0, 1, 0), (1, 1, 1), (0, 0, 1), (500, 1000, 700), (3000, 2000, 5000)]
     for shared, left, right in sizes:
-        check_meeting(program, markers(C, shared) + markers(ONLY_A, left), markers(C, shared) + markers(ONLY_B, right))
+        check_meeting(
+            program,
+            markers(C, shared) + markers(ONLY_A, left),
+            markers(C, shared) + markers(ONLY_B, right),
+        )
     # more than one message goes one way
     check_meeting(program, markers(ONLY_A, 29000, 255), markers(ONLY_B, 10, 255))
     ours, theirs = markers(A, 3), markers(B, 2)
     whole = summary(theirs) + ops(theirs) + BYE
     reply = summary(ours) + ops(ours) + BYE
     peers = [
-        ([whole], {None}), ([bytes([byte]) for byte in whole], {None}), ([], {49}), ([whole[:-1]], {49}), ([summary(theirs)], {49}),
-        ([whole + b"\0"], {None, 39}), ([summary(theirs) + BYE + BYE], {None, 39}), ([BYE], {39}), ([ops(theirs)], {39}), ([summary(theirs) * 2], {39}),
-        ([b"\0" * 64], {38}), ([b"GET / HTTP/1.0\r\n\r\n"], {40}), ([have([]) * 100000], {37, 39}), ([frame(b"\1" + b"\xff" * 9)], {38}),
-        ([bytes([0, 128, 0, 1])], {40}), ([summary(theirs) + ops([add_marker((1, A, 1), 5, "other")]) + BYE], {17}),
+        ([whole], {None}),
+        ([bytes([byte]) for byte in whole], {None}),
+        ([], {49}),
+        ([whole[:-1]], {49}),
+        ([summary(theirs)], {49}),
+        ([whole + b"\0"], {None, 39}),
+        ([summary(theirs) + BYE + BYE], {None, 39}),
+        ([BYE], {39}),
+        ([ops(theirs)], {39}),
+        ([summary(theirs) * 2], {39}),
+        ([b"\0" * 64], {38}),
+        ([b"GET / HTTP/1.0\r\n\r\n"], {40}),
+        ([have([]) * 100000], {37, 39}),
+        ([frame(b"\1" + b"\xff" * 9)], {38}),
+        ([bytes([0, 128, 0, 1])], {40}),
+        ([summary(theirs) + ops([add_marker((1, A, 1), 5, "other")]) + BYE], {17}),
     ]
     for pieces, wanted in peers:
         heard, desk = check_peer(program, pieces, wanted, ours)
@@ -291,8 +330,17 @@ def main():
     rounds = 50
     for seed in range(rounds):
         check_killed(program, seed)
-    outputs, waits, callers = check_refused_outputs(program), check_waits(program), check_many(program)
-    print("%d meetings of two processes agree with merging and with files, %d peers are told as they are, %d killed meetings were completed, %d ends refused an output, %d waits ended or did not, %d callers were served in turn" % (len(sizes) + 1, len(peers), rounds, outputs, waits, callers))
+    outputs, waits, callers = (
+        check_refused_outputs(program),
+        check_waits(program),
+        check_many(program),
+    )
+    print(
+        "%d meetings of two processes agree with merging and with files, %d peers are told as they "
+        "are, %d killed meetings were completed, %d ends refused an output, %d waits ended or did "
+        "not, %d callers were served in turn"
+        % (len(sizes) + 1, len(peers), rounds, outputs, waits, callers)
+    )
 
 
 if __name__ == "__main__":

@@ -1,10 +1,15 @@
 #!/usr/bin/env python3
-"""Converses with peers that damage or never end what they send: python3 tests/checks/peers.py PROGRAM [--count N] [--seed N]
+"""Converses with peers that damage or never end what they send:
+python3 tests/checks/peers.py PROGRAM [--count N] [--seed N]
 
-A socket on loopback plays the other end of `radio serve` and of `radio meet`. What it sends is a short honest stream cut at each place, the same with the byte at
-each place changed, and N streams drawn at random and damaged (formats/mutations.py), in one piece or in many. What the program comes to is compared with a second
-reading of the conversation (formats/read_messages.py): status, the refusal's number, what it sent, and the log that it wrote, or that OUT is as it was. A byte
-behind the peer's Bye may be met or not, which hangs on how it is cut. Then peers that send for ever, that say nothing and hang up, and that break the connection."""
+A loopback socket plays the peer of `radio serve` and of `radio meet`. It sends a short honest
+stream that is cut at each position, the stream with the byte at each position changed, and N
+streams drawn at random and damaged (formats/mutations.py), in one piece or in many. The outcome is
+compared with a second reading of the conversation (formats/read_messages.py): the status, the error
+number, the sent bytes, and the log that was written, or that OUT is unchanged. A byte after the
+peer's Bye may be seen or not, which depends on the pieces. Then it tries peers that send for ever,
+that say nothing and hang up, and that reset the connection.
+"""
 import argparse
 import collections
 import os
@@ -59,10 +64,16 @@ class Desk:
 
     def start(self, command, port, out):
         words = [self.program, command, "127.0.0.1:%d" % port, "log", out]
-        return subprocess.Popen(words, cwd=self.folder, stdin=subprocess.DEVNULL, stdout=subprocess.PIPE, stderr=subprocess.PIPE)
+        return subprocess.Popen(
+            words,
+            cwd=self.folder,
+            stdin=subprocess.DEVNULL,
+            stdout=subprocess.PIPE,
+            stderr=subprocess.PIPE,
+        )
 
     def meeting(self, calls, out):
-        """The program, and the line to it."""
+        """The program, and the connection to it."""
         if calls:
             child = self.start("meet", self.listener.getsockname()[1], out)
             return child, self.listener.accept()[0]
@@ -72,7 +83,7 @@ class Desk:
 
 
 def called(child, port):
-    """The line to one who is about to listen there."""
+    """The connection to a program that is about to listen there."""
     for _ in range(5000):
         try:
             line = socket.create_connection(("127.0.0.1", port))
@@ -87,7 +98,7 @@ def called(child, port):
 
 
 def send(line, pieces):
-    """Sends, and tells that no more comes; the other end may hang up at any moment."""
+    """Sends the pieces and the end of the stream; the other end may hang up at any moment."""
     line.setsockopt(socket.IPPROTO_TCP, socket.TCP_NODELAY, 1)
     try:
         for piece in pieces:
@@ -98,7 +109,7 @@ def send(line, pieces):
 
 
 def listen(line):
-    """All that the other end sends, as far as it comes."""
+    """All bytes from the other end, as far as they arrive."""
     heard = b""
     try:
         while piece := line.recv(65536):
@@ -120,7 +131,7 @@ def cut(draw, stream):
 
 
 def finished(child):
-    """The refusal's number, or none; nothing else is told."""
+    """The error number, or None; nothing else is printed."""
     try:
         output, errors = child.communicate(timeout=PATIENCE)
     finally:
@@ -133,7 +144,7 @@ def finished(child):
 
 
 def check(desk, calls, ops, pieces, out="out"):
-    """One conversation, compared with the reading; the number that it ended with."""
+    """Compares one conversation with the second reading; returns the number with which it ended."""
     log = write_log(ops)
     end = End(ops, calls).hear(b"".join(pieces))
     desk.lay(log)
@@ -143,11 +154,17 @@ def check(desk, calls, ops, pieces, out="out"):
         heard = listen(line)
     number = finished(child)
     wanted = {end.number, OUT_OF_TURN} if end.ended and end.left else {end.number}
-    context = ("meet" if calls else "serve", log.hex(), [piece.hex() for piece in pieces], number, wanted)
+    context = (
+        "meet" if calls else "serve", log.hex(), [piece.hex() for piece in pieces], number, wanted
+    )
     assert number in wanted, context
     before = {"log": log, "out": OLD}
-    assert desk.files() == (before if number is not None else {**before, out: write_log(end.ops)}), context
-    assert heard == end.sent if number is None and not end.left else end.sent.startswith(heard), (context, heard.hex(), end.sent.hex())
+    assert (
+        desk.files() == (before if number is not None else {**before, out: write_log(end.ops)})
+    ), context
+    assert heard == end.sent if number is None and not end.left else end.sent.startswith(heard), (
+        context, heard.hex(), end.sent.hex()
+    )
     return number
 
 
@@ -156,13 +173,17 @@ def read_back(ops):
 
 
 def honest(own, theirs):
-    """What an honest other end with these operations sends."""
+    """The bytes that an honest peer with these operations sends."""
     mine = {op[0] for op in own}
-    return exchange.summary(theirs) + exchange.ops([op for op in theirs if op[0] not in mine]) + exchange.BYE
+    return (
+        exchange.summary(theirs)
+        + exchange.ops([op for op in theirs if op[0] not in mine])
+        + exchange.BYE
+    )
 
 
 def check_each_place(desk, draw):
-    """A short honest stream cut at each place, and with the byte at each place changed."""
+    """A short honest stream cut at each position, and with the byte at each position changed."""
     own = [add_marker((1, A, 1), 480, "News"), retitle((3, A, 2), (1, A, 1), "Late")]
     theirs = own[:1] + [add_marker((2, B, 1), 9, "B"), retitle((4, B, 2), (2, B, 1), "C")]
     stream, count = honest(own, theirs), 0
@@ -171,7 +192,11 @@ def check_each_place(desk, draw):
             check(desk, calls, read_back(own), [stream[:at]])
             count += 1
         for at in range(len(stream)):
-            changed = stream[:at] + bytes([draw.choice([stream[at] ^ 1 << draw.randrange(8), draw.randrange(256)])]) + stream[at + 1 :]
+            changed = (
+                stream[:at]
+                + bytes([draw.choice([stream[at] ^ 1 << draw.randrange(8), draw.randrange(256)])])
+                + stream[at + 1 :]
+            )
             check(desk, calls, read_back(own), cut(draw, changed))
             count += 1
     return count
@@ -180,22 +205,37 @@ def check_each_place(desk, draw):
 def check_drawn(desk, draw):
     """A conversation drawn at random, damaged somewhere."""
     ops = drawn(draw)
-    own, theirs = [op for op in ops if draw.random() < 0.6], [op.text() for op in ops if draw.random() < 0.6]
+    own, theirs = (
+        [op for op in ops if draw.random() < 0.6],
+        [op.text() for op in ops if draw.random() < 0.6],
+    )
     mine = {op.own for op in own}
-    news = sorted([op for op in theirs if op[0] not in mine or draw.random() < 0.1], key=lambda op: op[0][1:])
+    news = sorted(
+        [op for op in theirs if op[0] not in mine or draw.random() < 0.1], key=lambda op: op[0][1:]
+    )
     if draw.random() < 0.3:
         news = [(None, text) for text in damaged_records(draw, [text for _, text in news])]
     places = draw.randint(0, len(news))
-    bodies = [exchange.summary(theirs)[4:]] + [exchange.ops_body(some) for some in (news[:places], news[places:]) if some] + [b"\3"]
-    stream = damaged_frames(draw, bodies) if draw.random() < 0.8 else b"".join(exchange.frame(body) for body in bodies)
+    bodies = (
+        [exchange.summary(theirs)[4:]]
+        + [exchange.ops_body(some) for some in (news[:places], news[places:]) if some]
+        + [b"\3"]
+    )
+    stream = (
+        damaged_frames(draw, bodies)
+        if draw.random() < 0.8
+        else b"".join(exchange.frame(body) for body in bodies)
+    )
     return check(desk, draw.random() < 0.5, own, cut(draw, stream), draw.choice(["out", "log"]))
 
 
 def peak(child):
-    """The most memory that a process had so far, where it is there."""
+    """The peak memory of a process so far, if it is known."""
     try:
         with open("/proc/%d/status" % child.pid) as file:
-            return next((1024 * int(line.split()[1]) for line in file if line.startswith("VmHWM")), 0)
+            return next(
+                (1024 * int(line.split()[1]) for line in file if line.startswith("VmHWM")), 0
+            )
     except OSError:
         return 0
 
@@ -205,7 +245,8 @@ def one_marker():
 
 
 def kept(desk, calls, talk):
-    """A conversation over the log itself that comes to nothing: what `talk` tells of it, and the number; the log is as it was."""
+    """A conversation that fails with OUT = LOG: the result of `talk`, and the error number; the log
+    is unchanged."""
     desk.lay(write_log(one_marker()))
     before = desk.files()
     child, line = desk.meeting(calls, "log")
@@ -217,7 +258,8 @@ def kept(desk, calls, talk):
 
 
 def for_ever(first, again):
-    """Sends `again` after `first` until nobody reads it or much was sent; the memory that the program took by then."""
+    """Sends `first` and then `again` until nobody reads it or much was sent; returns the program's
+    memory at that time."""
 
     def talk(child, line):
         piece = again * (65536 // len(again) + 1)
@@ -242,7 +284,7 @@ def silent(child, line):
 
 
 def breaking(front):
-    """Sends this, and breaks the connection with no word of farewell."""
+    """Sends this, and resets the connection."""
 
     def talk(child, line):
         line.sendall(front)
@@ -252,11 +294,19 @@ def breaking(front):
 
 
 def check_hostile(desk):
-    """Peers that never end, say nothing, or break off: how many, and the most memory that one of them took."""
+    """Peers that never end, say nothing, or reset the connection: their number, and the peak
+    memory."""
     other = [add_marker((number, B, number), 9, "B" * 200) for number in range(1, 201)]
     have, one = exchange.summary(other), exchange.ops(other)
     never = struct.pack(">I", exchange.LONGEST) + b"\2" + struct.pack(">I", 2**32 - 1)
-    endless = [(have, one, {49}), (have, have, {39}), (b"", bytes(4), {38}), (b"", b"\xff", {40}), (never, one[9:], {38}), (have + never, one[9:], {38})]
+    endless = [
+        (have, one, {49}),
+        (have, have, {39}),
+        (b"", bytes(4), {38}),
+        (b"", b"\xff", {40}),
+        (never, one[9:], {38}),
+        (have + never, one[9:], {38}),
+    ]
     count = most = 0
     for calls in (False, True):
         for first, again, wanted in endless:
@@ -264,7 +314,9 @@ def check_hostile(desk):
             assert number in wanted and taken <= PEAK_ALLOWED, (calls, first[:40], number, taken)
             most, count = max(most, taken), count + 1
         stream = have + exchange.ops(other[:1]) + exchange.BYE
-        for talk, wanted in [(silent, {49})] + [(breaking(stream[:at]), BROKEN_OFF) for at in range(0, len(stream) - 5, 13)]:
+        for talk, wanted in [(silent, {49})] + [
+            (breaking(stream[:at]), BROKEN_OFF) for at in range(0, len(stream) - 5, 13)
+        ]:
             _, number = kept(desk, calls, talk)
             assert number in wanted, (calls, number)
             count += 1
@@ -285,9 +337,16 @@ def main():
             numbers[check_drawn(desk, random.Random("%d %d" % (options.seed, number)))] += 1
         hostile, most = check_hostile(desk)
         desk.listener.close()
-    told = ", ".join("%s %d" % ("done" if number is None else number, count) for number, count in sorted(numbers.items(), key=str))
-    print("%d conversations cut or changed at a place and %d damaged at random (%s) end as a second reading has them; "
-          "%d peers that never end, say nothing or break off leave the log as it was, and the program took at most %d KiB" % (places, options.count, told, hostile, most // 1024))
+    told = ", ".join(
+        "%s %d" % ("done" if number is None else number, count)
+        for number, count in sorted(numbers.items(), key=str)
+    )
+    print(
+        "%d conversations cut or changed at a place and %d damaged at random (%s) end as a second "
+        "reading has them; %d peers that never end, say nothing or break off leave the log as it "
+        "was, and the program took at most %d KiB"
+        % (places, options.count, told, hostile, most // 1024)
+    )
 
 
 if __name__ == "__main__":

@@ -1,10 +1,13 @@
 #!/usr/bin/env python3
-"""Compares the pictures of `radio timeline --svg` with a second reading: tests/checks/pictures.py PROGRAM
+"""Compares the pictures of `radio timeline --svg` with a second reading:
+tests/checks/pictures.py PROGRAM
 
-Of some sessions, with fades, muted clips, markers that are no points and odd titles, and at several rates: that the picture is well-formed XML, that each thing is
-there as often as the session has it, with its title, and that each lies in the page and each clip in the row of its track. One has recordings, of which each width,
-one and several channels, clips past their ends, silence and one that is not at hand: the line of each column is that of a second reading. Where a Chromium is
-installed it draws them too, and tells where on the page each text and each shape is seen.
+Draws sessions with fades, muted clips, markers with lengths and unusual titles, at several rates.
+The picture must be well-formed XML and have each item as often as the session has it, with its
+title; each item must be inside the page, and each clip inside the row of its track. One session has
+recordings of each width, of one and several channels, clips past their ends, silence, and a missing
+recording: the peak of each column must be that of the second reading. If a Chromium is installed,
+it draws the pictures, and the positions of all texts and shapes on the page are checked.
 """
 import hashlib
 import html
@@ -28,7 +31,10 @@ from formats.waves import data, fmt, riff
 SVG = "{http://www.w3.org/2000/svg}"
 BROWSERS = ("chromium", "chromium-browser", "google-chrome")
 SECOND = 48000
-ODD = ["<b>&\"'", "]]>", "&amp;", "", "News", "W" * 255, "\ufffe\uffff", "新聞 أخبار", "  two  ", "<!-- -->", "\u0085\u200f\u2028"]
+ODD = [
+    "<b>&\"'", "]]>", "&amp;", "", "News", "W" * 255, "\ufffe\uffff", "新聞 أخبار", "  two  ",
+    "<!-- -->", "\u0085\u200f\u2028",
+]
 LOOKED_AT = 0
 
 
@@ -50,7 +56,11 @@ class Making:
         return own
 
     def clip(self, track, at, length, mute=0, gain=(1, 1), fades=(0, 0), offset=0, recording=None):
-        source = hashlib.sha256(recording).digest() if recording else bytes(range(len(self.ops), len(self.ops) + 32))
+        source = (
+            hashlib.sha256(recording).digest()
+            if recording
+            else bytes(range(len(self.ops), len(self.ops) + 32))
+        )
         own = self.add("add_clip", source=source, track=track, at=at, offset=offset, length=length)
         self.add("set_mute", item=own, flag=mute)
         self.add("set_gain", item=own, num=gain[0], den=gain[1])
@@ -64,7 +74,14 @@ def a_programme():
     made = Making()
     voice = made.track("Voice")
     for number in range(9):
-        made.clip(voice, number * 9 * SECOND, 8 * SECOND, mute=number % 3 == 2, gain=(number, 4), fades=(number * SECOND, 2 * SECOND))
+        made.clip(
+            voice,
+            number * 9 * SECOND,
+            8 * SECOND,
+            mute=number % 3 == 2,
+            gain=(number, 4),
+            fades=(number * SECOND, 2 * SECOND),
+        )
     made.clip(voice, 80 * SECOND, 1, fades=(1048576, 1048576))
     atmosphere = made.track(ODD[0], mute=1, gain=(65535, 65535))
     made.clip(atmosphere, 0, 60 * SECOND, fades=(SECOND, 1048576))
@@ -90,19 +107,40 @@ def one_marker():
 
 
 def sound(bits, channels, frames, loud):
-    """A wave file in which the channel C of the frame F is as loud as `loud(F, C)` says, from -1 to 1."""
+    """A wave file in which the channel C of the frame F has the level `loud(F, C)`, from -1 to
+    1."""
     most = 2 ** (bits - 1)
-    samples = [max(-most, min(most - 1, round(loud(frame, channel) * most))) for frame in range(frames) for channel in range(channels)]
+    samples = [
+        max(-most, min(most - 1, round(loud(frame, channel) * most)))
+        for frame in range(frames)
+        for channel in range(channels)
+    ]
     # 8 bits have their zero at 128
-    spelled = [bytes([sample + 128]) if bits == 8 else sample.to_bytes(bits // 8, "little", signed=True) for sample in samples]
+    spelled = [
+        bytes([sample + 128]) if bits == 8 else sample.to_bytes(bits // 8, "little", signed=True)
+        for sample in samples
+    ]
     return riff(fmt(channels, SECOND, bits), data(b"".join(spelled)))
 
 
 def recordings():
-    """Swells on both channels in turn, a peak on the last channel alone, few frames of which each is wide, the least sample, silence, and one that is not given."""
+    """Swells on both channels in turn, a peak on the last channel alone, few frames that are wide
+    columns, the least sample, silence, and a recording that is not given."""
     return [
-        sound(16, 2, 3000, lambda frame, channel: (frame % 1000) / 1000 * (-1) ** frame * (channel == frame // 1000 % 2)),
-        sound(24, 3, 2000, lambda frame, channel: -0.9 if (frame, channel) == (1500, 2) else 0.1 * channel),
+        sound(
+            16,
+            2,
+            3000,
+            lambda frame, channel: (
+                (frame % 1000) / 1000 * (-1) ** frame * (channel == frame // 1000 % 2)
+            ),
+        ),
+        sound(
+            24,
+            3,
+            2000,
+            lambda frame, channel: -0.9 if (frame, channel) == (1500, 2) else 0.1 * channel,
+        ),
         sound(8, 1, 7, lambda frame, channel: frame / 7),
         sound(32, 1, 1, lambda frame, channel: -1),
         sound(16, 1, 500, lambda frame, channel: 0),
@@ -110,12 +148,27 @@ def recordings():
 
 
 def with_recordings(frames):
-    """Clips in so many frames, 7 or more, from offsets on, past the ends of their recordings, muted, narrow, and over one another."""
+    """Clips in this many frames, 7 or more: from various offsets, past the ends of their
+    recordings, muted, narrow, and over one another."""
     made, (files, absent) = Making(), recordings()
     voice, other = made.track("Voice"), made.track("Other", mute=1)
     for number, file in enumerate(files):
-        made.clip(voice, number * frames // 7, frames // 7, recording=file, offset=number * 3, fades=(frames // 20, frames // 10))
-        made.clip(other, number * frames // 8, frames // 3, recording=file, mute=number % 2, gain=(number, 2))
+        made.clip(
+            voice,
+            number * frames // 7,
+            frames // 7,
+            recording=file,
+            offset=number * 3,
+            fades=(frames // 20, frames // 10),
+        )
+        made.clip(
+            other,
+            number * frames // 8,
+            frames // 3,
+            recording=file,
+            mute=number % 2,
+            gain=(number, 2),
+        )
     made.clip(other, frames - 7, 7, recording=files[2])
     made.clip(other, frames - 1, 1, recording=files[3])
     made.clip(voice, frames // 2, frames // 2, recording=files[0], offset=2900)
@@ -132,7 +185,9 @@ def drawn(program, folder, ops, rate, files=()):
         words += ["--source", os.path.join(folder, "recording%d.wav" % number)]
         with open(words[-1], "wb") as file:
             file.write(recording)
-    done = subprocess.run([program, "timeline", "--svg", "--rate", str(rate), *words, name], capture_output=True)
+    done = subprocess.run(
+        [program, "timeline", "--svg", "--rate", str(rate), *words, name], capture_output=True
+    )
     assert done.returncode == 0 and done.stderr == b"", done
     return done.stdout.decode()
 
@@ -146,14 +201,20 @@ def numbers(element, *names):
 
 
 def within(inner, outer, what):
-    """That a box of left, top, right and bottom lies in another."""
+    """Checks that a box, as left, top, right and bottom, is inside another one."""
     global LOOKED_AT
     LOOKED_AT += 1
-    assert outer[0] <= inner[0] and outer[1] <= inner[1] and inner[2] <= outer[2] and inner[3] <= outer[3], (what, inner, outer)
+    assert (
+        outer[0] <= inner[0]
+        and outer[1] <= inner[1]
+        and inner[2] <= outer[2]
+        and inner[3] <= outer[3]
+    ), (what, inner, outer)
 
 
 def boxes(element, x=0, y=0):
-    """Where each box below an element is, in units of the page, and its row. Every box of its own hides what is outside."""
+    """The position of each box below an element, in units of the page, and its row. Each nested
+    picture clips its content."""
     move = re.fullmatch(r"translate\((\d+) (\d+)\)", element.get("transform", "translate(0 0)"))
     x, y = x + int(move[1]), y + int(move[2])
     for child in element:
@@ -161,68 +222,109 @@ def boxes(element, x=0, y=0):
             left, top, width, height = numbers(child, "x", "y", "width", "height")
             yield child, (x + left, y + top, x + left + width, y + top + height)
         elif child.tag == SVG + "path":
-            across, top, bottom = map(int, re.fullmatch(r"M(\d+) (\d+)V(\d+)", child.get("d")).groups())
+            across, top, bottom = map(
+                int, re.fullmatch(r"M(\d+) (\d+)V(\d+)", child.get("d")).groups()
+            )
             yield child, (x + across, y + top, x + across, y + bottom)
         elif child.tag == SVG + "g":
             yield from boxes(child, x, y)
 
 
 def look_at_peaks(element, clip, found):
-    """That the peaks of a clip stand behind its ramps and before its label, each in a unit of the box and around its middle, and that those without a recording have none."""
+    """Checks that the peaks of a clip come after its ramps and before its label, each in a unit of
+    the box and around its middle, and that clips without a recording have none."""
     width, kinds = int(element.get("width")), [child.get("class") or child.tag for child in element]
     paths = element.findall(SVG + "path[@class='peaks']")
-    assert len(paths) <= int(clip.source in found) and ("peaks" not in kinds or kinds.index("peaks") == len(kinds) - 2), kinds
+    assert (
+        len(paths) <= int(clip.source in found)
+        and ("peaks" not in kinds or kinds.index("peaks") == len(kinds) - 2)
+    ), kinds
     for path in paths:
         assert re.fullmatch(r"(M\d+ \d+v\d+)+", path.get("d")), path.get("d")
         lines = [tuple(map(int, line)) for line in re.findall(r"M(\d+) (\d+)v(\d+)", path.get("d"))]
         assert [unit for unit, _, _ in lines] == sorted({unit for unit, _, _ in lines}), lines
         for unit, top, high in lines:
-            assert unit < width and 1 <= top <= 15 and top + high // 2 == 16 and high % 2 == 0, (unit, top, high)
+            assert unit < width and 1 <= top <= 15 and top + high // 2 == 16 and high % 2 == 0, (
+                unit, top, high
+            )
     return len(paths)
 
 
 def look_at(text, session, files=()):
-    """Looks at a picture by its elements, and tells how many boxes have peaks."""
+    """Checks a picture by its elements, and returns the number of boxes with peaks."""
     found, peaks = {hashlib.sha256(file).digest() for file in files}, 0
     root = ElementTree.fromstring(text)
     page = tuple(map(int, root.get("viewBox").split()))
-    assert root.tag == SVG + "svg" and page == (0, 0, *numbers(root, "width", "height")), root.attrib
+    assert root.tag == SVG + "svg" and page == (0, 0, *numbers(root, "width", "height")), (
+        root.attrib
+    )
     for element, box in boxes(root):
         within(box, page, element.attrib)
     rows = root.findall(SVG + "g[@transform]")
     assert len(rows) == len(session.tracks)
     for number, (row, track) in enumerate(zip(rows, session.tracks)):
-        assert row.get("transform") == "translate(0 %d)" % (72 + 40 * number) and ("mute" in row.get("class")) == track.mute
+        assert (
+            row.get("transform") == "translate(0 %d)" % (72 + 40 * number)
+            and ("mute" in row.get("class")) == track.mute
+        )
         label, *clips = row.findall(SVG + "svg")
-        assert label.find(SVG + "title").text == label.find(SVG + "text").text == (shown(track.title) or None), track.title
-        assert [clip.find(SVG + "title").text for clip in clips] == [logs.stamp_text(*clip.own) for clip in track.clips]
+        assert (
+            label.find(SVG + "title").text
+            == label.find(SVG + "text").text
+            == (shown(track.title) or None)
+        ), track.title
+        assert [clip.find(SVG + "title").text for clip in clips] == [
+            logs.stamp_text(*clip.own) for clip in track.clips
+        ]
         for element, box in boxes(row):
             top = 72 + 40 * number
-            within(box, (0 if element is label else 200, top, 200 if element is label else 1400, top + 40), element.attrib)
+            within(
+                box,
+                (0 if element is label else 200, top, 200 if element is label else 1400, top + 40),
+                element.attrib,
+            )
         for element, clip in zip(clips, track.clips):
-            assert ("mute" in element.get("class")) == clip.mute and len(element.findall(SVG + "path[@class='fade']")) == sum(fade > 0 for fade in clip.fades)
+            assert (
+                ("mute" in element.get("class")) == clip.mute
+                and len(element.findall(SVG + "path[@class='fade']")) == sum(
+                    fade > 0 for fade in clip.fades
+                )
+            )
             peaks += look_at_peaks(element, clip, found)
             assert element.find(SVG + "text").text.startswith(clip.source.hex()[:8])
     markers = root.findall(SVG + "g[@class='marker']")
-    assert [marker.find(SVG + "title").text or "" for marker in markers] == [shown(marker.title) for marker in session.markers]
-    assert [len(marker.findall(SVG + "rect")) for marker in markers] == [int(marker.span > 0) for marker in session.markers]
+    assert [marker.find(SVG + "title").text or "" for marker in markers] == [
+        shown(marker.title) for marker in session.markers
+    ]
+    assert [len(marker.findall(SVG + "rect")) for marker in markers] == [
+        int(marker.span > 0) for marker in session.markers
+    ]
     times = [time.text for time in root.findall(SVG + "text[@class='time']")]
     assert 1 <= len(times) <= 12 and times[0] == "0:00", times
     return peaks
 
 
-# Tells of each text and shape what is seen of it: the part of its box that is in each box that hides what is outside.
+# Reports the visible part of each text and shape: the part of its box that is inside all boxes that
+# clip it.
 SCRIPT = """<script><![CDATA[
 const seen = [];
 for (const element of document.querySelectorAll("text, rect, path")) {
   let box = element.getBoundingClientRect(), part = [box.left, box.top, box.right, box.bottom];
-  for (let around = element.parentNode; around !== document.documentElement; around = around.parentNode) {
+  let around = element.parentNode;
+  for (; around !== document.documentElement; around = around.parentNode) {
     if (around.tagName !== "svg") continue;
-    const [x, y, width, height] = ["x", "y", "width", "height"].map(name => around[name].baseVal.value);
-    const to = around.parentNode.getScreenCTM();
-    part = [Math.max(part[0], to.e + x), Math.max(part[1], to.f + y), Math.min(part[2], to.e + x + width), Math.min(part[3], to.f + y + height)];
+    const names = ["x", "y", "width", "height"];
+    const [x, y, width, height] = names.map(name => around[name].baseVal.value);
+    const to = around.parentNode.getScreenCTM(), left = to.e + x, top = to.f + y;
+    part = [
+      Math.max(part[0], left), Math.max(part[1], top),
+      Math.min(part[2], left + width), Math.min(part[3], top + height),
+    ];
   }
-  seen.push({name: element.tagName, text: element.textContent, in_clip: element.closest(".clip") !== null, drawn: box.width > 0, part: part});
+  seen.push({
+    name: element.tagName, text: element.textContent, in_clip: element.closest(".clip") !== null,
+    drawn: box.width > 0, part: part,
+  });
 }
 document.documentElement.setAttribute("data-seen", JSON.stringify(seen));
 ]]></script></svg>
@@ -230,28 +332,46 @@ document.documentElement.setAttribute("data-seen", JSON.stringify(seen));
 
 
 def look_by(browser, folder, text):
-    """Has a browser draw a picture, and looks where things are seen."""
+    """Lets a browser draw a picture, and checks where the elements are visible."""
     name = os.path.join(folder, "picture.svg")
     with open(name, "w") as file:
         file.write(text.removesuffix("</svg>\n") + SCRIPT)
-    words = [browser, "--headless", "--no-sandbox", "--disable-gpu", "--user-data-dir=" + os.path.join(folder, "browser"), "--dump-dom", "file://" + name]
+    words = [
+        browser,
+        "--headless",
+        "--no-sandbox",
+        "--disable-gpu",
+        "--user-data-dir=" + os.path.join(folder, "browser"),
+        "--dump-dom",
+        "file://" + name,
+    ]
     done = subprocess.run(words, capture_output=True, timeout=300)
     found = re.search(r'data-seen="([^"]*)"', done.stdout.decode())
     assert done.returncode == 0 and found, done
     page = (0, 0, *map(int, re.search(r'viewBox="0 0 (\d+) (\d+)"', text).groups()))
     for one in json.loads(html.unescape(found[1])):
         left, top, right, bottom = one["part"]
-        # lines are as wide as a unit, half of it on either side; a clip can be too narrow for its text
+        # lines have the width of one unit, half of it on either side; a clip can be too narrow for
+        # its text
         within((left + 0.5, top, right - 0.5, bottom), page, one)
-        assert one["in_clip"] or not one["drawn"] or (left < right and top < bottom), ("nothing is seen", one)
+        assert one["in_clip"] or not one["drawn"] or (left < right and top < bottom), (
+            "nothing is seen", one
+        )
 
 
 def main():
     program = os.path.abspath(sys.argv[1])
     browser = next((name for name in map(shutil.which, BROWSERS) if name), None)
     folder = tempfile.mkdtemp()
-    sessions = [(a_programme(), (), (SECOND, 1, 384000)), (a_long_one(), (), (SECOND, 1)), (one_marker(), (), (SECOND,)), ([], (), (SECOND,))]
-    sessions += [(*with_recordings(frames), (SECOND,)) for frames in (7, 900, 1200, 1201, 5000, 40000)]
+    sessions = [
+        (a_programme(), (), (SECOND, 1, 384000)),
+        (a_long_one(), (), (SECOND, 1)),
+        (one_marker(), (), (SECOND,)),
+        ([], (), (SECOND,)),
+    ]
+    sessions += [
+        (*with_recordings(frames), (SECOND,)) for frames in (7, 900, 1200, 1201, 5000, 40000)
+    ]
     pictures, peaks = 0, 0
     try:
         for ops, files, rates in sessions:
@@ -263,7 +383,10 @@ def main():
                     look_by(browser, folder, text)
     finally:
         shutil.rmtree(folder)
-    told = "%d pictures, in which %d boxes lie where they have to, and %d have the peaks of their recordings" % (pictures, LOOKED_AT, peaks)
+    told = (
+        "%d pictures, in which %d boxes lie where they have to, and %d have the peaks of their "
+        "recordings" % (pictures, LOOKED_AT, peaks)
+    )
     print(told + ("" if browser else ", not drawn: no Chromium"))
 
 

@@ -1,17 +1,20 @@
 #!/usr/bin/env python3
-"""Checks the pages: lines, cells, links, budgets, and the English: tests/checks/prose.py [--list]
+"""Checks the pages: cells, links, budgets, English: tests/checks/prose.py [--list]
 
-The pages are README.md, CONTRIBUTING.md and docs/**/*.md. It fails on
+The pages are README.md, CONTRIBUTING.md and docs/**/*.md. lines.py checks the lengths of their
+lines. This check fails on
 
-- a line of over 100 characters (tables, `text` blocks and the marks of generated parts apart), a cell of a table of over 120,
-  and over 30 lines with no heading (generated parts and blocks apart);
-- a page over its budget or without one, and all pages over TOTAL. The words of a page are those of `wc -w` without the marks of
-  generated parts, and without the index of laws and the measurements, which grow with the code and with the runs (UNCOUNTED);
-- a line inside a paragraph that begins as an item of a list;
-- a relative link to a file or a heading that is not there, and a page that docs/README.md does not link;
-- more than ten sentences of 35 words or more, and more than ten of each of the turns below, in all pages together. Generated
-  parts, blocks and code are not looked at here: their words are mended where they come from;
-- a block `sh norun NAME` whose NAME, a check below tests, is not there, and any other words after `sh` (story.py types the rest).
+- a cell of a table with over 120 characters, and over 30 lines without a heading (generated parts
+  and blocks apart);
+- a page without a budget or over it, and all pages over TOTAL. The words of a page are those that
+  `wc -w` counts, without the marks of generated parts. The index of laws and the measurements do
+  not count, as they grow with the code and with the runs (UNCOUNTED);
+- a line inside a paragraph that begins like an item of a list;
+- a relative link to a missing file or heading, and a page without a link in docs/README.md;
+- more than ten sentences of 35 words or more, and more than ten uses of a turn in TURNS, in all
+  pages together. Generated parts, blocks and code are skipped: they are corrected at their source;
+- a block `sh norun NAME` whose NAME is no file below tests, and any other words after `sh`
+  (story.py runs the other blocks).
 """
 import glob
 import os
@@ -19,7 +22,7 @@ import re
 import sys
 
 TOP = os.path.dirname(os.path.dirname(os.path.dirname(os.path.abspath(__file__))))
-LINE, CELL, HEADLESS, LONG, MOST = 100, 120, 30, 35, 10
+CELL, HEADLESS, LONG, MOST = 120, 30, 35, 10
 TOTAL = 20000
 BUDGETS = {
     "README.md": 950,
@@ -44,7 +47,7 @@ BUDGETS = {
     "docs/build/adding-a-command.md": 600,
     "docs/build/adding-an-operation.md": 600,
 }
-# pages that may come; their words are added to TOTAL
+# pages that may be added; their words are added to TOTAL
 LATER = {
     "docs/use/archive.md": 500,
     "docs/use/desk.md": 900,
@@ -69,8 +72,12 @@ TURNS = {
     "hangs on": r"\b(hang|hangs|hung) on\b",
 }
 GENERATED = re.compile(r"<!-- generated: ([^>]*?) -->(.*?)<!-- end -->", re.S)
-MARK = re.compile(r"<!-- .*? -->")
 FENCE = re.compile(r"^```(.*?)\n(.*?)^```$", re.M | re.S)
+
+
+def blank(place):
+    """As many empty lines as a match has."""
+    return "\n" * place.group().count("\n")
 
 
 def text_of(page):
@@ -84,26 +91,24 @@ def pages():
 
 
 def counted(text):
-    """What of a page counts for its budget."""
-    text = GENERATED.sub(lambda part: "" if part.group(1).split()[0] in UNCOUNTED else part.group(2), text)
+    """The words of a page that count for its budget."""
+    text = GENERATED.sub(
+        lambda part: "" if part.group(1).split()[0] in UNCOUNTED else part.group(2), text
+    )
     return len(text.split())
 
 
-def line_faults(text):
-    fence = ""
-    for number, line in enumerate(text.splitlines(), 1):
-        if line.startswith("```"):
-            fence = "" if fence else line[3:].split()[0] if line[3:] else "text"
-        elif line.startswith("|") and not fence:
-            cells = re.split(r"(?<!\\)\|", line.strip("|"))
-            if max(map(len, cells)) > CELL:
-                yield "line %d has a cell of %d characters" % (number, max(map(len, cells)))
-        elif len(MARK.sub("", line)) > LINE and fence != "text":
-            yield "line %d has %d characters" % (number, len(MARK.sub("", line)))
+def cell_faults(text):
+    """The cells of tables that are too long."""
+    for number, line in enumerate(FENCE.sub(blank, text).splitlines(), 1):
+        if line.startswith("|"):
+            longest = max(map(len, re.split(r"(?<!\\)\|", line.strip("|"))))
+            if longest > CELL:
+                yield "line %d has a cell of %d characters" % (number, longest)
 
 
 def list_faults(text):
-    """The lines inside a paragraph that begin as an item of a list does."""
+    """The lines inside a paragraph that begin like an item of a list."""
     before = ""
     for line in FENCE.sub("", GENERATED.sub("", text)).splitlines():
         begins = re.match(r"\s*(?:[-+*]|\d+\.) ", line)
@@ -141,16 +146,29 @@ def link_faults(page, text):
 def block_faults(text):
     for words, _ in FENCE.findall(text):
         kind, *rest = words.split() or [""]
-        if kind == "sh" and rest and (len(rest) != 2 or rest[0] != "norun" or not os.path.exists(os.path.join(TOP, rest[1]))):
+        if (
+            kind == "sh"
+            and rest
+            and (
+                len(rest) != 2
+                or rest[0] != "norun"
+                or not os.path.exists(os.path.join(TOP, rest[1]))
+            )
+        ):
             yield "a block `%s` names no check that runs its like" % words
 
 
 def plain(text):
-    """The words that somebody wrote: paragraphs, items, cells and headings apart, code as one word."""
+    """The prose: paragraphs, items, cells and headings as separate parts, with code as one word."""
     text = FENCE.sub("\n\n", GENERATED.sub("\n\n", text))
     text = re.sub(r"`[^`]*`", "CODE", text)
     text = re.sub(r"!?\[([^]]*)\]\([^)]*\)", r"\1", text)
-    text = re.sub(r"^(#.*|\|.*|!.*)$", lambda line: "\n" + line.group(1).replace("|", "\n\n") + "\n", text, flags=re.M)
+    text = re.sub(
+        r"^(#.*|\|.*|!.*)$",
+        lambda line: "\n" + line.group(1).replace("|", "\n\n") + "\n",
+        text,
+        flags=re.M,
+    )
     return re.sub(r"^\s*(?:[-*]|\d+\.) ", "\n", text, flags=re.M)
 
 
@@ -167,7 +185,7 @@ def faults_of(page, text):
         yield "it has no budget"
     elif counted(text) > budget:
         yield "it has %d words, and may have %d" % (counted(text), budget)
-    yield from line_faults(text)
+    yield from cell_faults(text)
     yield from list_faults(text)
     yield from heading_faults(text)
     yield from link_faults(page, text)
@@ -179,7 +197,10 @@ def faults_of_all(texts):
     for name in BUDGETS:
         if name not in texts:
             yield "%s is not there" % name
-    whole, most = sum(map(counted, texts.values())), TOTAL + sum(words for page, words in LATER.items() if page in texts)
+    whole, most = (
+        sum(map(counted, texts.values())),
+        TOTAL + sum(words for page, words in LATER.items() if page in texts),
+    )
     if whole > most:
         yield "all pages have %d words, and may have %d" % (whole, most)
     linked = re.findall(r"\]\(([^)#]+)", texts["docs/README.md"])
@@ -189,27 +210,48 @@ def faults_of_all(texts):
 
 
 def turns_of(texts):
-    """The long sentences and each of the turns, with where they are."""
+    """The long sentences and each of the turns, with their places."""
     found = {"sentences of %d words or more" % LONG: []}
     for page, text in texts.items():
-        found["sentences of %d words or more" % LONG] += ["%s: %s" % (page, one) for one in sentences(text) if len(one.split()) >= LONG]
+        found["sentences of %d words or more" % LONG] += [
+            "%s: %s" % (page, one) for one in sentences(text) if len(one.split()) >= LONG
+        ]
         words = plain(text)
         for name, turn in TURNS.items():
             places = re.finditer(turn, words, re.I)
-            found.setdefault(name, []).extend("%s: %s" % (page, " ".join(words[max(0, one.start() - 30) : one.end() + 30].split())) for one in places)
+            found.setdefault(name, []).extend(
+                "%s: %s"
+                % (page, " ".join(words[max(0, one.start() - 30) : one.end() + 30].split()))
+                for one in places
+            )
     return found
 
 
 def main():
     texts = {page: text_of(page) for page in pages()}
-    faults = ["%s: %s" % (page, fault) for page, text in texts.items() for fault in faults_of(page, text)]
+    faults = [
+        "%s: %s" % (page, fault) for page, text in texts.items() for fault in faults_of(page, text)
+    ]
     faults += faults_of_all(texts)
     turns = turns_of(texts)
-    faults += ["%d times: %s\n  %s" % (len(found), name, "\n  ".join(found)) for name, found in turns.items() if len(found) > MOST]
+    faults += [
+        "%d times: %s\n  %s" % (len(found), name, "\n  ".join(found))
+        for name, found in turns.items()
+        if len(found) > MOST
+    ]
     if "--list" in sys.argv[1:]:
-        print("\n".join("%6d of %5d %s" % (counted(text), BUDGETS.get(page, LATER.get(page, 0)), page) for page, text in texts.items()))
+        print(
+            "\n".join(
+                "%6d of %5d %s" % (counted(text), BUDGETS.get(page, LATER.get(page, 0)), page)
+                for page, text in texts.items()
+            )
+        )
         print("\n".join("%6d %s" % (len(found), name) for name, found in turns.items()))
-    print("".join(fault + "\n" for fault in faults) + "prose: %d pages, %d words, %d faults" % (len(texts), sum(map(counted, texts.values())), len(faults)))
+    print(
+        "".join(fault + "\n" for fault in faults) + "prose: %d pages, %d words, %d faults" % (
+            len(texts), sum(map(counted, texts.values())), len(faults)
+        )
+    )
     return 1 if faults else 0
 
 

@@ -1,15 +1,18 @@
 #!/usr/bin/env python3
 """Tries `tests/wrong_bodies.py --renamed MAP OLD`, and the draw of ten: tests/checks/record.py
 
-A small made-up tree is renamed: names, a file, a folder, a crate; a record gets the name of its
-type; imports in another order, a list on several lines, another remark. That is the same tokens,
-and each crate gets its line. Then one thing more changes: a body, a clause, two names that change
-places, a definition, a proof, a wrong body. Each of these has to be told, and the crate has to stay
-as it is; what none of its wrong bodies can name may change. So do maps that do not lead back
-without a doubt. Of two wrong bodies in one crate that one is tried which rests on what changed. At
-last the whole command runs in a repository, and so does `--changed`, with a stand-in for rt that
-refuses a body, admits it, or refuses it by an answer that fits no longer or by names alone: a drawn
-body that is not refused fails the run. It proves nothing."""
+A small artificial tree is renamed: names, a file, a folder and a crate. A record gets the name of
+its type, imports get another order, a list is split into several lines, and a comment is changed.
+The tokens are still the same, and each crate gets its line. Then one more thing changes: a body, a
+clause, two swapped names, a definition, a proof, or a wrong body. Each such change must be
+reported, and the crate must not get its line; only what none of its wrong bodies can name may
+change. Maps that cannot be reversed with certainty are rejected too. Of two wrong bodies in one
+crate, the one that depends on the change is tried.
+
+At the end, the whole command runs in a repository, and so does `--changed`, with a stand-in for rt
+that rejects a body, proves it, or rejects it because an answer does not fit any more or because of
+names alone. A drawn body that is not rejected makes the run fail. Nothing is proved.
+"""
 import os
 import re
 import shutil
@@ -44,12 +47,16 @@ HAND = (
     "    pub fn left(&self) -> u32\n        ensures result ≡ 1\n    {\n        1\n    }\n\n"
     "    pub fn right(&self) -> u32\n        ensures result ≡ 2\n    {\n        2\n    }\n}\n"
 )
-# a type, and the record that it is seen as
+# a type, and the record as which it appears
 LEG = (
-    "ghost use Rattle.low.specs.Sums.{Limb};\n\npub struct Leg {\n    pub long: u32,\n}\n\n"
-    "impl Model for Leg {\n    ghost use Rattle.low.specs.Sums.{Limb};\n\n    ghost Value = { Limb };\n}\n\n"
-    "impl Leg {\n    pub fn grown(self) -> Leg\n"
-    "        ensures { (l : Limb) → l.long ≡ result.long }\n    {\n        Leg { long: self.long }\n    }\n}\n"
+    (
+        "ghost use Rattle.low.specs.Sums.{Limb};\n\npub struct Leg {\n    pub long: u32,\n}\n\n"
+        "impl Model for Leg {\n    ghost use Rattle.low.specs.Sums.{Limb};\n\n"
+        "    ghost Value = { Limb };\n}\n\n"
+        "impl Leg {\n    pub fn grown(self) -> Leg\n"
+        "        ensures { (l : Limb) → l.long ≡ result.long }\n    {\n"
+        "        Leg { long: self.long }\n    }\n}\n"
+    )
 )
 SUMS = (
     "-- Sums.\nuse Rattle.std.specs.Prelude.{ℕ, ◌+◌}\n\n"
@@ -86,8 +93,8 @@ OLD = {
 NAMES = {
     "low": "base", "added": "summed", "total": "entire", "Hand": "Arm", "hand": "arm",
     "Sums": "Whole", "one": "first", "takes_away": "subtracts"}
-# The record gets the type's name, in clauses another one, and where a proof names both, so do the
-# type's fields; a method is renamed in the crates that name it.
+# The record gets the type's name, but another one in clauses; where a proof names both, the type's
+# fields are renamed as well. A method is renamed in the crates that name it.
 MAP = "".join("%s %s\n" % pair for pair in NAMES.items())
 MAP += "Limb Leg contract\nLimb LegValue clause\nLeg Fields contract\ngrown taller code @low,high\n"
 
@@ -101,7 +108,7 @@ def new_names(text):
 
 
 def renamed_tree():
-    """The tree after the rename, laid out as `rt fmt` may lay it out then."""
+    """The tree after the rename, as `rt fmt` may format it."""
     tree = {new_names(path): new_names(text) for path, text in OLD.items()}
     lib = tree["crates/base/src/lib.rt"]
     lib = lib.replace("//! A base.", "//! Another remark: added, low.")
@@ -116,8 +123,8 @@ def renamed_tree():
     return tree
 
 
-# What changes beside the names: the crates that then differ, and where: a file, and an old and a
-# new text in it.
+# Changes in addition to the names: the crates that then differ, and the place: a file, and an old
+# and a new text in it.
 CHANGES = {
     "a body": ("base", "crates/base/src/lib.rt", "first + other //", "other + first //"),
     "a sign": ("base", "crates/base/src/lib.rt", "first + other //", "first - other //"),
@@ -170,7 +177,7 @@ BAD_MAPS = {
 
 
 def lay(tree, top):
-    """Lays the files of a tree into a folder."""
+    """Writes the files of a tree into a folder."""
     for path, text in tree.items():
         place = os.path.join(top, path)
         os.makedirs(os.path.dirname(place), exist_ok=True)
@@ -179,7 +186,8 @@ def lay(tree, top):
 
 
 def differing(tree, old_top, folder, names):
-    """The crates of a tree that are not those of OLD under other names, each with what differs."""
+    """The crates of a tree that are not those of OLD under other names, each with its
+    difference."""
     top = os.path.join(folder, "new")
     shutil.rmtree(top, ignore_errors=True)
     lay(tree, top)
@@ -188,7 +196,7 @@ def differing(tree, old_top, folder, names):
 
 
 def check_changes(old_top, folder):
-    """What is wrong with how changes beside the names are told."""
+    """The faults in the report on changes in addition to names."""
     names, wrong = Names(MAP), []
     renamed.check_map(names, old_top)
     told = differing(renamed_tree(), old_top, folder, names)
@@ -212,7 +220,7 @@ def check_changes(old_top, folder):
 
 
 def check_maps(old_top):
-    """The maps that are taken though they do not lead back."""
+    """The maps that are accepted although they cannot be reversed."""
     wrong = []
     for what, text in BAD_MAPS.items():
         try:
@@ -228,7 +236,7 @@ def git(top, *words):
     subprocess.run(["git", *who, *words], cwd=top, check=True, capture_output=True)
 
 
-# Stands in for rt: with HOW it says how it answers a body that the edit has changed.
+# Stands in for rt: HOW is its answer to a body that the edit has changed.
 RT = """#!/usr/bin/env python3
 import os, sys
 if sys.argv[1] == "version":
@@ -254,7 +262,7 @@ elif edited and how in ("answers", "names"):
 print(told)
 sys.exit(edited and told != "fn added: proved")
 """
-# What a run says of the drawn body, by how the stand-in answers.
+# What a run says about the drawn body, by the stand-in's answer.
 SAYS = {
     "refused": "",
     "admitted": "low: takes_away: drawn, and its function was not refused for itself\n",
@@ -264,7 +272,8 @@ SAYS = {
 
 
 def lay_repository(top, more=None):
-    """A repository with the tree OLD, and more, in whose record `low` holds, and `high` does not."""
+    """A repository with the tree OLD and more files, in whose record `low` holds and `high` does
+    not."""
     lay({**OLD, **(more or {})}, top)
     lay({"bin/rt": RT}, os.path.dirname(top))
     os.chmod(os.path.join(os.path.dirname(top), "bin", "rt"), 0o755)
@@ -279,7 +288,7 @@ def lay_repository(top, more=None):
 
 
 def changed(top, how):
-    """What `--changed` says and its status, where the stand-in answers so."""
+    """The output of `--changed` and its status, if the stand-in answers like this."""
     words = [sys.executable, "-B", "tests/wrong_bodies.py", "--changed", "--jobs", "1"]
     env = {**os.environ, "HOW": how}
     told = subprocess.run(words, cwd=top, capture_output=True, text=True, env=env)
@@ -287,8 +296,8 @@ def changed(top, how):
 
 
 def check_changed(folder):
-    """What is wrong with `--changed`, in a repository: `low` holds, so its wrong body is drawn, and
-    `high` is tried, and gets its line."""
+    """The faults of `--changed` in a repository: `low` holds, so its wrong body is drawn; `high` is
+    tried, and gets its line."""
     top, wrong = os.path.join(folder, "changed"), []
     for how, says in SAYS.items():
         shutil.rmtree(top, ignore_errors=True)
@@ -311,9 +320,9 @@ def check_changed(folder):
 
 
 def check_parts(folder):
-    """What is wrong with the lines of single wrong bodies, in a repository: one that holds is not
-    tried again, one that does not is, and beside a body that is not refused another gets its
-    line."""
+    """The faults in the lines of single wrong bodies, in a repository: one whose line holds is not
+    tried again, one whose line does not hold is, and if one body is not rejected, another still
+    gets its line."""
     top, wrong = os.path.join(folder, "parts"), []
     record = os.path.join(top, "tests", "wrong_bodies.tried")
 
@@ -343,7 +352,7 @@ def check_parts(folder):
 
 
 def check_command(folder):
-    """What is wrong with the whole command, in a repository."""
+    """The faults of the whole command, in a repository."""
     top = os.path.join(folder, "repository")
     lay_repository(top)
     shutil.rmtree(os.path.join(top, "crates"))
@@ -365,9 +374,9 @@ def check_command(folder):
 
 
 def check_bodies(folder):
-    """What is wrong with a crate that has two wrong bodies, in a repository, once the function that
-    one of them edits is another: that one is tried, and the crate gets its line where it is
-    refused."""
+    """The faults with a crate that has two wrong bodies, in a repository, after the function that
+    one of them edits has changed: that one is tried, and the crate gets its line if it is
+    rejected."""
     top, wrong = os.path.join(folder, "bodies"), []
     more = {
         "crates/low/src/least.rt": "pub fn none() -> u32\n    ensures result ≡ 0\n{\n    0\n}\n",
@@ -387,7 +396,9 @@ def check_bodies(folder):
         lay_repository(top, {"crates/low/wrong-bodies.txt": bodies})
         was = sum_of("low", top)
         lay({"none": ""}, folder)
-        lib = LOW.replace("    one + other // 'a'", "    let sum = one + other;\n    one + other // 'a'")
+        lib = LOW.replace(
+            "    one + other // 'a'", "    let sum = one + other;\n    one + other // 'a'"
+        )
         lay({"crates/low/src/lib.rt": lib}, top)
         env = {**os.environ, "HOW": how}
         told = subprocess.run(words, cwd=top, capture_output=True, text=True, env=env)
@@ -405,8 +416,8 @@ def check_bodies(folder):
 
 
 def check_draw():
-    """What is wrong with the draw: ten bodies, the same of one tree, others of another, and each
-    body has its turn."""
+    """The faults of the draw: it takes ten bodies, the same for one tree and others for another,
+    and each body is drawn at some time."""
     bodies = [("crate%d" % (k % 7), "body%d" % k) for k in range(100)]
     share, seen = draw.share, set()
     draw.share = lambda crate, names, most: names[: min(most, 7)]

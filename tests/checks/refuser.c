@@ -1,5 +1,6 @@
-// Stands before the C library's memory: the request REFUSE_AT, counted from 1, is refused, and with REFUSE_ON all after it too. How many there were is written
-// into the file REFUSE_COUNT, where that is set, as the program ends. For LD_PRELOAD, with glibc.
+// Replaces the allocation functions of the C library: the request REFUSE_AT, counted from 1, fails,
+// and with REFUSE_ON all later requests fail too. The number of requests is written into the file
+// REFUSE_COUNT at the end, if that is set. For LD_PRELOAD, with glibc.
 #include <errno.h>
 #include <stddef.h>
 #include <stdio.h>
@@ -29,8 +30,12 @@ static int is_refused(void) {
 void *malloc(size_t size) { return is_refused() ? NULL : __libc_malloc(size); }
 void *calloc(size_t count, size_t size) { return is_refused() ? NULL : __libc_calloc(count, size); }
 void *realloc(void *old, size_t size) { return is_refused() ? NULL : __libc_realloc(old, size); }
-void *memalign(size_t align, size_t size) { return is_refused() ? NULL : __libc_memalign(align, size); }
-void *aligned_alloc(size_t align, size_t size) { return is_refused() ? NULL : __libc_memalign(align, size); }
+void *memalign(size_t align, size_t size) {
+  return is_refused() ? NULL : __libc_memalign(align, size);
+}
+void *aligned_alloc(size_t align, size_t size) {
+  return is_refused() ? NULL : __libc_memalign(align, size);
+}
 
 int posix_memalign(void **place, size_t align, size_t size) {
   void *got = is_refused() ? NULL : __libc_memalign(align, size);

@@ -1,22 +1,22 @@
 #!/usr/bin/env python3
-"""Takes operations back and looks at what is then there: tests/checks/reverted.py PROGRAM
-[--logs N] [--seed N] [--first N]
+"""Takes operations back and looks at what is then there:
+tests/checks/reverted.py PROGRAM [--logs N] [--seed N] [--first N]
 
-Logs are drawn at random, as tests/checks/model.py draws them, but of few items that many
-operations change. Of each log some operations are taken back: `radio revert` writes the script,
-and `radio edit` makes its changes, as a replica of the log or as a new one. By a model of the
-session, made of the bytes of both logs (tests/formats), these have to hold:
+Logs are drawn at random, as in tests/checks/model.py, but with few items that many operations
+change. Some operations of each log are reverted: `radio revert` writes the script, and `radio edit`
+makes its changes, as a replica of the log or as a new one. By a model of the session, built from
+the bytes of both logs (tests/formats), these must hold:
 
-- No line of the script is refused.
-- What an operation wrote that a line takes back is as it was before the oldest such operation:
-  each field and each presence. A track that was moved is put behind the track that it was put
-  behind.
-- Nothing else is changed: no other field, no other presence, no other order of tracks, and no
+- No line of the script fails.
+- Each field and each presence that was written by an operation that a line reverts is as it was
+  before the oldest such operation. A track that was moved is again after the same track as before.
+- Nothing else has changed: no other field, no other presence, no other order of tracks, and no
   operation of the log.
-- A line is left out, by a remark, only for what waits, for what is as before, for an item that is
-  absent, and for a field that another operation has changed since; such a field has no line.
+- A comment replaces a line only for an operation that waits, for a value that is already as before,
+  for an absent item, and for a field that another operation has changed since.
 
-Stops at the first log of which this is not so, and prints what repeats it."""
+Stops at the first log for which this does not hold, and prints how to repeat it.
+"""
 import argparse
 import collections
 import os
@@ -56,8 +56,8 @@ class Busy(History):
 
 
 class State:
-    """What the ready ones of some operations leave: the value of each field and who wrote it, which
-    items are present, and the order of all tracks."""
+    """The state after the ready operations: the value of each field and its writer, which items are
+    present, and the order of all tracks."""
 
     def __init__(self, ops):
         self.ready = sorted(ready_of(ops), key=lambda op: op.own)
@@ -70,7 +70,7 @@ class State:
                 self.there[op.own] = bool(live_tags(self.ready, op.own))
 
     def told(self, field, value):
-        """A value, of the place of a track the track that it is put behind."""
+        """A value; for the place of a track, the track that it comes after."""
         place = self.ways.get(value) if field == "track place" else None
         return place.track if place and place.kind == "move_track" else value
 
@@ -79,13 +79,13 @@ class State:
         return sorted(tracks, key=lambda own: path(place_of(self.ready, own)))
 
     def wrote(self, op):
-        """The field that an operation wrote that adds none, and its item."""
+        """The field that an operation other than an add wrote, and its item."""
         return item_of(op), next(iter(values(op)))
 
 
 class Trial:
-    """A log, the operations of it that are taken back, the lines that do that, and the operations
-    that these lines made."""
+    """A log, the operations of it that are reverted, the lines that do so, and the operations that
+    these lines made."""
 
     def __init__(self, ops, stamps, lines, after):
         self.ops, self.lines, self.all = ops, lines, after
@@ -100,8 +100,8 @@ class Trial:
         return State([other for other in self.ops if other.own < op.own])
 
     def expected(self):
-        """What is to be as it was, by field and by presence: newest first, so that the oldest
-        operation that is taken back says last what it was."""
+        """The fields and presences that must be restored. The newest operation comes first, so the
+        value before the oldest reverted one is kept."""
         fields, there = {}, {}
         for op in self.back:
             was = self.before(op)
@@ -126,8 +126,8 @@ class Trial:
             yield "other fields, or other operations that wait"
 
     def wrong_places(self, fields):
-        """Tracks that are moved stand right behind theirs, or behind others that are moved; all
-        others stand as they stood."""
+        """Tracks that are moved are directly after theirs, or after others that are moved; all
+        others keep their order."""
         moved = {item for item, field in fields if field == "track place"}
         order = self.new.order()
         left = [own for own in order if own not in moved]
@@ -141,14 +141,14 @@ class Trial:
                     yield "%s does not stand behind its track" % stamp_text(*item)
 
     def later(self, op):
-        """The ready operations that wrote the same field later, and that nobody takes back."""
+        """The ready operations that wrote the same field later, and that are not reverted."""
         key = self.now.wrote(op)
         others = (other for other in self.now.ready if other.own > op.own)
         writers = (one for one in others if item_of(one) == key[0] and key[1] in values(one))
         return {stamp_text(*one.own) for one in writers if one not in self.back}
 
     def remark_holds(self, op, kind, words, made):
-        """Whether a remark says what is so, where so many operations are made."""
+        """Whether a comment is true after this many operations were made."""
         held, was = op.own in self.now.held, self.before(op)
         here = State(self.ops + self.made[:made])
         if kind == "waits" or held:
@@ -185,7 +185,7 @@ class Trial:
                 yield "it is not so: %s" % line
 
     def wrong(self, editor, tally):
-        """What is wrong, if anything."""
+        """The fault, if there is one."""
         if len(self.lines) != len(self.back):
             return ["%d lines for %d operations" % (len(self.lines), len(self.back))]
         if len(self.made) != len(self.taken) or any(op.own[1] != editor for op in self.made):
@@ -198,7 +198,7 @@ class Trial:
 
 
 def drawn(draw):
-    """A set of operations, of which some may be missing that others name."""
+    """A set of operations, where some that others name may be missing."""
     history = Busy(draw)
     for _ in range(draw.choice([6, 12, 25, 50])):
         history.add()
@@ -225,7 +225,7 @@ def run(program, *words):
 
 
 def trial(program, draw, tally):
-    """One log, in the folder at hand; what is wrong, if anything."""
+    """Tries one log, in the current folder; returns the fault, if there is one."""
     ops = drawn(draw)
     if not ops:
         return []

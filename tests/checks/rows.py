@@ -1,9 +1,12 @@
 #!/usr/bin/env python3
-"""Checks that each worked row and each named wrong body has its places: tests/checks/rows.py
+"""Checks the places of worked rows and named wrong bodies: tests/checks/rows.py
 
-tests/rows.txt lists them: a name at the beginning of a line, with what it is about, and below it, indented, its places, each FILE:WHAT. A place is a test, or
-what a test goes through, that a comment `row: NAME, ...` (or `wrong body: NAME, ...`) before it marks; of a wrong body also an edit of that name in a crate's
-wrong-bodies.txt. The check fails where a name has no place, a place is not there or not marked, or a mark is not listed."""
+tests/rows.txt lists them: each name at the beginning of a line, with its subject, and below it,
+indented, its places, each FILE:WHAT. A place is a test, or an item that a test uses, with a comment
+`row: NAME, ...` or `wrong body: NAME, ...` before it. For a wrong body, it can also be an edit with
+that name in a crate's wrong-bodies.txt. The check fails if a name has no place, if a place does not
+exist or is not marked, and if a mark is not listed.
+"""
 import glob
 import os
 import re
@@ -26,7 +29,8 @@ def lines_of(path):
 
 
 def item_after(path, lines, place):
-    """What a mark in a line of Rattle or of a specification is about, and whether a test runs it."""
+    """The item that a mark in a line of Rattle or of a contract is about, and whether a test runs
+    it."""
     for number in range(place + 1, len(lines)):
         if path.endswith(".antt"):
             found = EXAMPLE.match(lines[number])
@@ -43,7 +47,8 @@ def item_after(path, lines, place):
 
 
 def marks():
-    """Each mark: the kind, the name, the file and what is marked. What no test runs is told."""
+    """Each mark: the kind, the name, the file and the marked item. Items that no test runs are
+    reported."""
     found = set()
     for pattern in ("crates/*/src/**/*.rt", "crates/*/specs/**/*.antt"):
         for path in sorted(glob.glob(os.path.join(TOP, pattern), recursive=True)):
@@ -61,7 +66,8 @@ def marks():
 
 
 def listed():
-    """Each place of the list, in its order: the kind, the name, the file and what stands there; of a name without a place, the name alone."""
+    """Each place of the list, in order: the kind, the name, the file and the item; for a name, with
+    None for its file and item."""
     kind, name = "row", None
     for line in lines_of(ROWS):
         if line.startswith("#") or not line.strip():

@@ -1,5 +1,7 @@
-"""Runs of each command that the checks of failures disturb: words, the files that lie there, what comes to standard input or from a peer, and what is right by the
-second reading (formats/answers.py, formats/read_messages.py)."""
+"""Runs of each command that the checks of failures disturb: the words, the files, standard input or
+the bytes of a peer, and the right result by the second reading (formats/answers.py,
+formats/read_messages.py).
+"""
 import hashlib
 import os
 import socket
@@ -21,25 +23,35 @@ PATIENCE = 30
 
 
 class Scene:
-    """A run of the program. `stream` is what a peer sends, where the run is a conversation."""
+    """A run of the program. `stream` is what a peer sends, if the run is a conversation."""
 
     def __init__(self, name, words, files, stdin=b"", stream=None, right=None):
-        self.name, self.words, self.files, self.stdin, self.stream = name, words, files, stdin, stream
+        self.name, self.words, self.files, self.stdin, self.stream = (
+            name, words, files, stdin, stream,
+        )
         self.right = right or self.answer(files, stdin, stream)
 
     def answer(self, files, stdin, stream):
-        """What is right where the files have these bytes."""
+        """The right result if the files have these bytes."""
         if stream is None:
             return answer(self.words, files, stdin)
         try:
             end = End(read_log(files["log"]), self.words[0] == "meet").hear(stream)
         except Refused as refused:
             return Answer(refused.number)
-        return Answer(end.number) if end.number is not None else Answer(made={self.words[-1]: write_log(end.ops)})
+        return (
+            Answer(end.number)
+            if end.number is not None
+            else Answer(made={self.words[-1]: write_log(end.ops)})
+        )
 
     def again(self, files):
-        """The same run where these files are left."""
-        return self if files == self.files else Scene(self.name, self.words, files, self.stdin, self.stream)
+        """The same run with the files that are left."""
+        return (
+            self
+            if files == self.files
+            else Scene(self.name, self.words, files, self.stdin, self.stream)
+        )
 
     @property
     def files_after(self):
@@ -47,14 +59,27 @@ class Scene:
 
 
 def markers(replica, count, size):
-    return [add_marker((number, replica, number), number, "m" * size) for number in range(1, count + 1)]
+    return [
+        add_marker((number, replica, number), number, "m" * size) for number in range(1, count + 1)
+    ]
 
 
 def scenes(count, size):
-    """A run of each command or two, over logs of so many markers with titles of this size."""
+    """A run or two of each command, over logs of `count` markers with titles of `size` bytes."""
     ours, theirs = markers(A, count, size), markers(B, count, size)
-    recording = waves.riff(waves.fmt(1, 48000, 16), waves.data(bytes(index * 37 % 256 for index in range(600))), waves.cue(waves.point(1, 5)), waves.adtl(waves.labl(1, b"Bell\0"), waves.ltxt(1, 9)))
-    played = [add_track((1, C, 1), None, "T"), add_clip((2, C, 2), hashlib.sha256(recording).digest(), (1, C, 1), 0, 0, 300)] + ours[:3]
+    recording = waves.riff(
+        waves.fmt(1, 48000, 16),
+        waves.data(bytes(index * 37 % 256 for index in range(600))),
+        waves.cue(waves.point(1, 5)),
+        waves.adtl(waves.labl(1, b"Bell\0"), waves.ltxt(1, 9)),
+    )
+    played = (
+        [
+            add_track((1, C, 1), None, "T"),
+            add_clip((2, C, 2), hashlib.sha256(recording).digest(), (1, C, 1), 0, 0, 300),
+        ]
+        + ours[:3]
+    )
     whole, other = log(ours), log(ours[: count // 2] + theirs)
     script = b"add-track head Voice\nadd-marker 480 News\nretitle $2 Headlines\nmute $1 on\n"
     asked, sent = exchange.summary(theirs), exchange.ops(theirs) + exchange.BYE
@@ -65,24 +90,58 @@ def scenes(count, size):
         Scene("view of standard input", ["view"], {}, whole),
         Scene("log", ["log", "log"], {"log": whole}),
         Scene("timeline", ["timeline", "--width", "9", "log"], {"log": log(played)}),
-        Scene("merge", ["merge", "out", "log", "other"], {"log": whole, "other": other, "out": OLD}),
+        Scene(
+            "merge", ["merge", "out", "log", "other"], {"log": whole, "other": other, "out": OLD}
+        ),
         Scene("merge onto a log", ["merge", "log", "log", "other"], {"log": whole, "other": other}),
-        Scene("merge that is refused", ["merge", "out", "log", "other"], {"log": whole, "other": other[:-1], "out": OLD}),
+        Scene(
+            "merge that is refused",
+            ["merge", "out", "log", "other"],
+            {"log": whole, "other": other[:-1], "out": OLD},
+        ),
         Scene("pull", ["pull", "log", "other"], {"log": whole, "other": other}),
-        Scene("edit", ["edit", editor, "log", "script", "out"], {"log": whole, "script": script, "out": OLD}),
-        Scene("edit that is refused", ["edit", editor, "log", "script", "out"], {"log": whole, "script": script + b"frob\n", "out": OLD}),
-        Scene("render", ["render", "out", "log", "r", "--bits", "16"], {"log": log(played), "r": recording, "out": OLD}),
+        Scene(
+            "edit",
+            ["edit", editor, "log", "script", "out"],
+            {"log": whole, "script": script, "out": OLD},
+        ),
+        Scene(
+            "edit that is refused",
+            ["edit", editor, "log", "script", "out"],
+            {"log": whole, "script": script + b"frob\n", "out": OLD},
+        ),
+        Scene(
+            "render",
+            ["render", "out", "log", "r", "--bits", "16"],
+            {"log": log(played), "r": recording, "out": OLD},
+        ),
         Scene("render that is refused", ["render", "out", "log"], {"log": log(played), "out": OLD}),
         Scene("info", ["info", "r"], {"r": recording}),
         Scene("check", ["check", "log", "r"], {"log": log(played + theirs[:1]), "r": recording}),
         Scene("check that is refused", ["check", "log"], {"log": log(played)}),
-        Scene("sources", ["sources", "log", "r", "script"], {"log": log(played), "r": recording, "script": script}),
-        Scene("find", ["find", "log", "clip", hashlib.sha256(recording).hexdigest()], {"log": log(played)}),
+        Scene(
+            "sources",
+            ["sources", "log", "r", "script"],
+            {"log": log(played), "r": recording, "script": script},
+        ),
+        Scene(
+            "find",
+            ["find", "log", "clip", hashlib.sha256(recording).hexdigest()],
+            {"log": log(played)},
+        ),
         Scene("diff", ["diff", "log", "other"], {"log": whole, "other": other}),
-        Scene("diff that is refused", ["diff", "log", "other"], {"log": whole, "other": other[:-1]}),
-        Scene("find by a file", ["find", "--wave", "log", "clip", "r"], {"log": log(played), "r": recording}),
+        Scene(
+            "diff that is refused", ["diff", "log", "other"], {"log": whole, "other": other[:-1]}
+        ),
+        Scene(
+            "find by a file",
+            ["find", "--wave", "log", "clip", "r"],
+            {"log": log(played), "r": recording},
+        ),
         Scene("lay", ["lay", "--at", "7", "--gap", "2", "$1", "r", "r"], {"r": recording}),
-        Scene("lay that is refused", ["lay", "$1", "r", "script"], {"r": recording, "script": script}),
+        Scene(
+            "lay that is refused", ["lay", "$1", "r", "script"], {"r": recording, "script": script}
+        ),
         Scene("have", ["have", "log", "out"], {"log": whole, "out": OLD}),
         Scene("lack", ["lack", "log", "have", "out"], {"log": whole, "have": asked, "out": OLD}),
         Scene("take", ["take", "log", "ops", "out"], {"log": whole, "ops": sent, "out": OLD}),
@@ -94,12 +153,31 @@ def scenes(count, size):
 
 
 def endless_scenes():
-    """Commands that read an input without end, which no memory holds."""
+    """Commands that read an endless input, which no memory can hold."""
     whole, zero, editor = log(markers(A, 3, 8)), "/dev/zero", "00000000-0000-0000-0000-00000000000c"
     words = [
-        ["view", zero], ["log", "log", zero], ["timeline", zero], ["merge", "out", zero], ["edit", editor, zero, "log", "out"], ["edit", editor, "log", zero, "out"], ["have", zero, "out"],
-        ["lack", "log", zero, "out"], ["take", "log", zero, "out"], ["render", "out", "log", zero], ["info", zero], ["sources", "log", zero], ["find", zero, "track", "Voice"], ["diff", "log", zero], ["find", "--wave", "log", "clip", zero], ["lay", "$1", zero], ["check", "log", zero], ["serve", "127.0.0.1:0", zero, "out"]]
-    return [Scene(" ".join(some), some, {"log": whole, "out": OLD}, right=Answer(0)) for some in words]
+        ["view", zero],
+        ["log", "log", zero],
+        ["timeline", zero],
+        ["merge", "out", zero],
+        ["edit", editor, zero, "log", "out"],
+        ["edit", editor, "log", zero, "out"],
+        ["have", zero, "out"],
+        ["lack", "log", zero, "out"],
+        ["take", "log", zero, "out"],
+        ["render", "out", "log", zero],
+        ["info", zero],
+        ["sources", "log", zero],
+        ["find", zero, "track", "Voice"],
+        ["diff", "log", zero],
+        ["find", "--wave", "log", "clip", zero],
+        ["lay", "$1", zero],
+        ["check", "log", zero],
+        ["serve", "127.0.0.1:0", zero, "out"],
+    ]
+    return [
+        Scene(" ".join(some), some, {"log": whole, "out": OLD}, right=Answer(0)) for some in words
+    ]
 
 
 def read(path):
@@ -108,25 +186,36 @@ def read(path):
 
 
 class Told:
-    """What a run came to: status, output, errors, and the files that lie there afterwards."""
+    """The result of a run: status, output, errors, and the files that are there afterwards."""
 
     def __init__(self, status, output, errors, files):
         self.status, self.output, self.errors, self.files = status, output, errors, files
 
     def is_right(self, scene):
         right = scene.right
-        return (self.status, self.output, self.errors, self.files) == (right.status, right.output, right.errors, scene.files_after)
+        return (self.status, self.output, self.errors, self.files) == (
+            right.status, right.output, right.errors, scene.files_after
+        )
 
     def __str__(self):
-        files = ", ".join("%s of %d bytes" % (name, len(data)) for name, data in sorted(self.files.items()))
-        return "status %d, errors %r, output of %d bytes, %s" % (self.status, self.errors[:200], len(self.output), files)
+        files = ", ".join(
+            "%s of %d bytes" % (name, len(data)) for name, data in sorted(self.files.items())
+        )
+        return "status %d, errors %r, output of %d bytes, %s" % (
+            self.status, self.errors[:200], len(self.output), files
+        )
 
 
 class Stage:
-    """Two folders: `desk`, where the program runs, and `told`, with its input, output and errors."""
+    """Two folders: `desk`, where the program runs, and `told`, with its input, output and
+    errors."""
 
     def __init__(self, program, folder):
-        self.program, self.desk, self.told = program, os.path.join(folder, "desk"), os.path.join(folder, "told")
+        self.program, self.desk, self.told = (
+            program,
+            os.path.join(folder, "desk"),
+            os.path.join(folder, "told"),
+        )
         for place in (self.desk, self.told):
             os.mkdir(place)
 
@@ -141,33 +230,61 @@ class Stage:
                 file.write(data)
 
     def run(self, scene, before=(), files=None, more=None):
-        """Runs the program in this scene, behind the words `before`; `files` lie there if not those of the scene. `more` is added to its environment."""
+        """Runs the program in this scene, with the words `before` in front; `files` replace those
+        of the scene. `more` is added to its environment."""
         self.lay(scene.files if files is None else files)
         with open(os.path.join(self.told, "stdin"), "wb") as file:
             file.write(scene.stdin)
         with socket.create_server(("127.0.0.1", 0)) as listener:
             listener.settimeout(0.02)
             port = free_port() if scene.words[0] == "serve" else listener.getsockname()[1]
-            child = self.start([*before, self.program, *[word.replace("ADDR", "127.0.0.1:%d" % port) for word in scene.words]], more)
+            child = self.start(
+                [
+                    *before,
+                    self.program,
+                    *[word.replace("ADDR", "127.0.0.1:%d" % port) for word in scene.words],
+                ],
+                more,
+            )
             try:
                 if scene.stream is not None:
-                    converse(called(child, port) if scene.words[0] == "serve" else caller(child, listener), scene.stream)
+                    converse(
+                        called(child, port)
+                        if scene.words[0] == "serve"
+                        else caller(child, listener),
+                        scene.stream,
+                    )
                 child.wait(PATIENCE)
             finally:
                 child.kill()
                 child.wait()
-        return Told(child.returncode, read(os.path.join(self.told, "stdout")), read(os.path.join(self.told, "stderr")), self.files())
+        return Told(
+            child.returncode,
+            read(os.path.join(self.told, "stdout")),
+            read(os.path.join(self.told, "stderr")),
+            self.files(),
+        )
 
     def start(self, words, more):
-        streams = [open(os.path.join(self.told, name), mode) for name, mode in (("stdin", "rb"), ("stdout", "wb"), ("stderr", "wb"))]
-        child = subprocess.Popen(words, cwd=self.desk, stdin=streams[0], stdout=streams[1], stderr=streams[2], env={**os.environ, **(more or {})})
+        streams = [
+            open(os.path.join(self.told, name), mode)
+            for name, mode in (("stdin", "rb"), ("stdout", "wb"), ("stderr", "wb"))
+        ]
+        child = subprocess.Popen(
+            words,
+            cwd=self.desk,
+            stdin=streams[0],
+            stdout=streams[1],
+            stderr=streams[2],
+            env={**os.environ, **(more or {})},
+        )
         for stream in streams:
             stream.close()
         return child
 
 
 def converse(line, stream):
-    """Sends what a peer sends, and hears the other end out."""
+    """Sends the bytes of a peer, and reads everything that the other end sends."""
     if line is None:
         return
     with line:
@@ -185,7 +302,7 @@ def converse(line, stream):
 
 
 def caller(child, listener):
-    """The line of the program that calls here, if it does before it ends."""
+    """The connection from the program, if it calls before it ends."""
     while True:
         try:
             return listener.accept()[0]
@@ -195,7 +312,7 @@ def caller(child, listener):
 
 
 def called(child, port):
-    """The line to the program, if it listens before it ends."""
+    """The connection to the program, if it listens before it ends."""
     end = time.monotonic() + PATIENCE
     while child.poll() is None and time.monotonic() < end:
         try:

@@ -1,14 +1,16 @@
 #!/usr/bin/env python3
 """Types the commands of every page as a newcomer does: python3 tests/checks/story.py PROGRAM
 
-The `sh` blocks of README.md, CONTRIBUTING.md and each page of docs are typed in their order, page by page, in a folder of its own that has
-`examples`, with `radio` on the PATH; that of README.md has the program only where a build puts it, and in place of its `rt run` the program
-runs. A `text` block right after an `sh` block is what it prints, and so is `# ops N` at the end of a line. A block `sh norun NAME` is not
-typed: the check NAME runs its like (prose.py).
+The `sh` blocks of README.md, CONTRIBUTING.md and each page of docs are run in order, page by page,
+in a temporary folder that has `examples`, with `radio` on the PATH. For README.md the program is
+only where a build puts it, and its `rt run` runs the program instead. A `text` block directly after
+an `sh` block is its output, and so is `# ops N` at the end of a line. A block `sh norun NAME` is
+not run: the check NAME runs similar commands (prose.py).
 
-The scripts that README.md shows have to be those of `examples`. Then the logs of `examples` are made anew from their scripts, which have to
-be the same bytes; the sessions of the first picture have to be theirs, and the tutorial has to draw the second one. Where `rt` is there, it
-has to be the kit that README.md names, with the logic that docs/build/proved.md names.
+The scripts in README.md must be those of `examples`. Then the logs of `examples` are made from
+their scripts, with equal bytes; the sessions of the first picture must be theirs, and the tutorial
+must draw the second one. If `rt` is installed, it must be the kit that README.md names, with the
+logic that docs/build/proved.md names.
 """
 import filecmp
 import glob
@@ -40,13 +42,15 @@ def pages():
 
 
 def steps_of(page):
-    """The commands of a page, block by block, each with what it prints: the numbers of changes after the edits, and then the text block
-    right after it, if there is one."""
+    """The commands of a page, block by block, each with its output: the numbers of changes after
+    the edits, and then the text block directly after it, if there is one."""
     steps, end = [], None
     for place in BLOCK.finditer(text_of(page)):
         kind, text = place.group(1), place.group(2)
         if kind == "sh":
-            steps.append([text, "".join(line + "\n" for line in re.findall(r"# (ops \d+)$", text, re.M))])
+            steps.append(
+                [text, "".join(line + "\n" for line in re.findall(r"# (ops \d+)$", text, re.M))]
+            )
             end = place.end()
         elif kind == "text" and end == place.start():
             steps[-1][1] += text
@@ -55,39 +59,60 @@ def steps_of(page):
 
 
 def type_page(page, folder, path):
-    """Types the steps of a page in one shell, so that each begins where the one before has ended."""
+    """Runs the steps of a page in one shell, so that each starts where the one before has ended."""
     steps = steps_of(page)
     script = "printf '\\036'\n".join(commands.replace(BUILD, "out/radio") for commands, _ in steps)
     env = dict(os.environ, PATH=path)
-    run = subprocess.run(["sh", "-ec", script], cwd=folder, stdin=subprocess.DEVNULL, stdout=subprocess.PIPE, text=True, env=env)
+    run = subprocess.run(
+        ["sh", "-ec", script],
+        cwd=folder,
+        stdin=subprocess.DEVNULL,
+        stdout=subprocess.PIPE,
+        text=True,
+        env=env,
+    )
     printed = run.stdout.split("\036")
-    assert run.returncode == 0, "these commands of %s failed:\n%s" % (page, steps[len(printed) - 1][0])
+    assert run.returncode == 0, (
+        "these commands of %s failed:\n%s" % (page, steps[len(printed) - 1][0])
+    )
     for (commands, wanted), text in zip(steps, printed):
-        assert text == wanted, "the commands\n%sof %s print\n%swhere it says\n%s" % (commands, page, text, wanted)
+        assert text == wanted, (
+            "the commands\n%sof %s print\n%swhere it says\n%s" % (commands, page, text, wanted)
+        )
     return len(steps)
 
 
 def check_pages(program):
-    """How many blocks of all pages were typed, and how many were not."""
+    """How many blocks of all pages were run, and how many were not."""
     typed = left = 0
     for page in pages():
         left += len(re.findall(r"^```sh norun ", text_of(page), re.M))
         with tempfile.TemporaryDirectory() as folder:
             shutil.copytree(EXAMPLES, os.path.join(folder, "examples"))
-            built = os.path.join(folder, "crates" if page == "README.md" else ".clone/crates", "radio", "out")
+            built = os.path.join(
+                folder, "crates" if page == "README.md" else ".clone/crates", "radio", "out"
+            )
             os.makedirs(built)
             os.symlink(program, os.path.join(built, "radio"))
-            path = os.environ["PATH"] if page == "README.md" else built + os.pathsep + os.environ["PATH"]
+            path = (
+                os.environ["PATH"]
+                if page == "README.md"
+                else built + os.pathsep + os.environ["PATH"]
+            )
             typed += type_page(page, folder, path)
             if page == TUTORIAL:
-                assert filecmp.cmp(DRAWN, os.path.join(folder, "news.svg"), shallow=False), "docs/img/news.svg is not what the tutorial draws"
+                assert filecmp.cmp(DRAWN, os.path.join(folder, "news.svg"), shallow=False), (
+                    "docs/img/news.svg is not what the tutorial draws"
+                )
     return typed, left
 
 
 def check_readme():
-    """How many scripts README.md shows, each as it is in `examples`."""
+    """The number of scripts in README.md, each as it is in `examples`."""
     readme = text_of("README.md")
-    assert sum(BUILD in commands for commands, _ in steps_of("README.md")) == 1, "README.md has not one block with `%s`" % BUILD
+    assert sum(BUILD in commands for commands, _ in steps_of("README.md")) == 1, (
+        "README.md has not one block with `%s`" % BUILD
+    )
     kept = []
     for name in sorted(os.listdir(EXAMPLES)):
         if name.endswith(".txt"):
@@ -99,17 +124,22 @@ def check_readme():
 
 
 def check_kit():
-    """Whether the kit at hand is the one that the pages name."""
+    """Checks that the installed kit is the one that the pages name."""
     if not shutil.which("rt"):
         print("skipped: the kit's name, no rt")
         return
-    kit, _, logic = subprocess.run(["rt", "version"], stdout=subprocess.PIPE, text=True, check=True).stdout.split()
+    kit, _, logic = subprocess.run(
+        ["rt", "version"], stdout=subprocess.PIPE, text=True, check=True
+    ).stdout.split()
     assert kit in text_of("README.md"), "README.md does not name the kit %s" % kit
-    assert logic in text_of("docs/build/proved.md"), "docs/build/proved.md does not name the logic %s" % logic
+    assert logic in text_of("docs/build/proved.md"), (
+        "docs/build/proved.md does not name the logic %s" % logic
+    )
 
 
 def picture_of(path):
-    """The logs that the picture's bold lines name, each with what stands after the name and the lines below it; and all other text."""
+    """The logs that the picture's bold lines name, each with the text after the name and the lines
+    below it; and all other text."""
     logs, rest = [], []
     for text in ElementTree.parse(path).iter("{http://www.w3.org/2000/svg}text"):
         line = "".join(text.itertext())
@@ -125,32 +155,55 @@ def picture_of(path):
 
 
 def is_printed(shown, printed):
-    """Whether these lines are the printed ones, where `…` stands for what the picture leaves out."""
-    return len(shown) == len(printed) and all(re.fullmatch(".+".join(map(re.escape, line.split("…"))), whole) for line, whole in zip(shown, printed))
+    """Whether these lines are the printed ones, where `…` stands for the parts that the picture
+    leaves out."""
+    return (
+        len(shown) == len(printed)
+        and all(
+            re.fullmatch(".+".join(map(re.escape, line.split("…"))), whole)
+            for line, whole in zip(shown, printed)
+        )
+    )
 
 
 def check_picture(program, folder):
-    """How many lines of sessions the picture shows, each as `radio view` prints it. A merge beside a name makes that log, and the same bytes
-    with its inputs turned."""
+    """The number of session lines in the picture, each as `radio view` prints it. A merge next to a
+    name makes that log, and equal bytes with its inputs swapped."""
     logs, rest = picture_of(PICTURE)
-    assert rest == ["the same bytes in either order"], "two_editors.svg has other text than its sessions: %s" % rest
+    assert rest == ["the same bytes in either order"], (
+        "two_editors.svg has other text than its sessions: %s" % rest
+    )
     for name, about, lines in logs:
         if about.startswith("radio merge "):
             _, _, out, *inputs = about.split()
             for made, order in ((out + ".turned", inputs[::-1]), (out, inputs)):
                 subprocess.run([program, "merge", made] + order, check=True, cwd=folder)
-            assert filecmp.cmp(os.path.join(folder, out), os.path.join(folder, out + ".turned"), shallow=False), "%s has other bytes in the other order" % out
-        printed = subprocess.run([program, "view", name], check=True, cwd=folder, stdout=subprocess.PIPE, text=True).stdout
-        assert is_printed(lines, printed.splitlines()), "two_editors.svg shows of %s\n%s\nwhere `radio view` prints\n%s" % (name, "\n".join(lines), printed)
+            assert filecmp.cmp(
+                os.path.join(folder, out), os.path.join(folder, out + ".turned"), shallow=False
+            ), "%s has other bytes in the other order" % out
+        printed = subprocess.run(
+            [program, "view", name], check=True, cwd=folder, stdout=subprocess.PIPE, text=True
+        ).stdout
+        assert is_printed(lines, printed.splitlines()), (
+            "two_editors.svg shows of %s\n%s\nwhere `radio view` prints\n%s"
+            % (name, "\n".join(lines), printed)
+        )
     return sum(len(lines) for _, _, lines in logs)
 
 
 def check_examples(program, folder):
-    """How many logs `examples` has, each made anew by its scripts."""
-    subprocess.run(["sh", os.path.join(EXAMPLES, "make.sh"), program], check=True, cwd=folder, stdout=subprocess.DEVNULL)
+    """The number of logs in `examples`, each made again from its scripts."""
+    subprocess.run(
+        ["sh", os.path.join(EXAMPLES, "make.sh"), program],
+        check=True,
+        cwd=folder,
+        stdout=subprocess.DEVNULL,
+    )
     made = sorted(os.listdir(folder))
     for name in made:
-        assert filecmp.cmp(os.path.join(folder, name), os.path.join(EXAMPLES, name), shallow=False), "examples/%s is not what its scripts make" % name
+        assert filecmp.cmp(
+            os.path.join(folder, name), os.path.join(EXAMPLES, name), shallow=False
+        ), "examples/%s is not what its scripts make" % name
     assert made == sorted(name for name in os.listdir(EXAMPLES) if name.endswith(".log")), made
     return len(made)
 
@@ -163,7 +216,10 @@ def main():
     with tempfile.TemporaryDirectory() as folder:
         made = check_examples(program, folder)
         lines = check_picture(program, folder)
-    print("story: %d blocks typed, %d left to other checks, %d scripts, %d example logs, %d lines of the picture" % (typed, left, scripts, made, lines))
+    print(
+        "story: %d blocks typed, %d left to other checks, %d scripts, %d example logs, %d lines of "
+        "the picture" % (typed, left, scripts, made, lines)
+    )
 
 
 if __name__ == "__main__":

@@ -1,16 +1,24 @@
-// Runs a program and makes one of its system calls fail, answer something else or end the process: tracer REPORT HOW INDEX VALUE PROGRAM [WORD]...
-// Calls are counted from 1 after the program has begun. HOW is one of
+// Runs a program and makes one of its system calls fail, return something else or end the process:
+//
+//   tracer REPORT HOW INDEX VALUE PROGRAM [WORD]...
+//
+// Calls are counted from 1, after the program has started. HOW is one of
+//
 //   list        changes nothing
-//   fail        the call of this index is not made, and answers the error VALUE, or where the break stands
-//   fail-from   so do all calls for memory from this index on
-//   give        the call is not made, and answers VALUE
-//   short       the call is asked for VALUE bytes at most
+//   fail        the call of this index is not made, and returns the error VALUE; a failed `brk`
+//               returns the current break
+//   fail-from   likewise for all calls for memory from this index on
+//   give        the call is not made, and returns VALUE
+//   short       the call is asked for at most VALUE bytes
 //   before      the process is killed before the call
-//   after       the process is killed after it
-//   limit       the program may have VALUE bytes of address space, and changes nothing else
-// Into the file REPORT goes a line for each call that was listed or changed: index, name, `loader` or `own`, answer, and what it was about; under a limit the
-// name of the last call that was the program's own, if there was one; `stack` where the stack could not grow; and at the end `signal N` where one ended the process. The status is the program's, or 126
-// where it could not be started. Linux on x86-64.
+//   after       the process is killed after the call
+//   limit       the program gets VALUE bytes of address space; nothing else changes
+//
+// The file REPORT gets a line for each call that was listed or changed: index, name, `loader` or
+// `own`, result, and the file or descriptor of the call. Under a limit it gets the name of the
+// program's last own call, if any, and `stack` where the stack could not grow. The last line is
+// `signal N` if a signal ended the process. The status is that of the program, or 126 if it could
+// not be started. Linux on x86-64.
 #define _GNU_SOURCE
 #include <errno.h>
 #include <fcntl.h>
@@ -30,7 +38,7 @@
 #error "written for x86-64"
 #endif
 
-// as far from the end of the stack as a function reaches that has no greater locals
+// how far a function without greater locals reaches past the end of the stack
 #define NEAR (1 << 20)
 
 enum about { NOTHING, DESCRIPTOR, FIRST_PATH, SECOND_PATH, MEMORY };
@@ -40,24 +48,75 @@ static const struct {
   const char *name;
   enum about about;
 } CALLS[] = {
-  {SYS_read, "read", DESCRIPTOR}, {SYS_write, "write", DESCRIPTOR}, {SYS_readv, "readv", DESCRIPTOR}, {SYS_writev, "writev", DESCRIPTOR},
-  {SYS_pread64, "pread64", DESCRIPTOR}, {SYS_pwrite64, "pwrite64", DESCRIPTOR}, {SYS_close, "close", DESCRIPTOR}, {SYS_fstat, "fstat", DESCRIPTOR},
-  {SYS_lseek, "lseek", DESCRIPTOR}, {SYS_fcntl, "fcntl", DESCRIPTOR}, {SYS_dup, "dup", DESCRIPTOR}, {SYS_fsync, "fsync", DESCRIPTOR},
-  {SYS_flock, "flock", DESCRIPTOR}, {SYS_fchmod, "fchmod", DESCRIPTOR}, {SYS_link, "link", FIRST_PATH}, {SYS_linkat, "linkat", SECOND_PATH},
-  {SYS_fdatasync, "fdatasync", DESCRIPTOR}, {SYS_ftruncate, "ftruncate", DESCRIPTOR}, {SYS_ioctl, "ioctl", DESCRIPTOR}, {SYS_open, "open", FIRST_PATH},
-  {SYS_openat, "openat", SECOND_PATH}, {SYS_newfstatat, "newfstatat", SECOND_PATH}, {SYS_statx, "statx", SECOND_PATH}, {SYS_stat, "stat", FIRST_PATH},
-  {SYS_lstat, "lstat", FIRST_PATH}, {SYS_access, "access", FIRST_PATH}, {SYS_rename, "rename", FIRST_PATH}, {SYS_renameat, "renameat", SECOND_PATH},
-  {SYS_renameat2, "renameat2", SECOND_PATH}, {SYS_unlink, "unlink", FIRST_PATH}, {SYS_unlinkat, "unlinkat", SECOND_PATH}, {SYS_socket, "socket", NOTHING},
-  {SYS_bind, "bind", DESCRIPTOR}, {SYS_listen, "listen", DESCRIPTOR}, {SYS_accept, "accept", DESCRIPTOR}, {SYS_accept4, "accept4", DESCRIPTOR},
-  {SYS_connect, "connect", DESCRIPTOR}, {SYS_recvfrom, "recvfrom", DESCRIPTOR}, {SYS_sendto, "sendto", DESCRIPTOR}, {SYS_recvmsg, "recvmsg", DESCRIPTOR},
-  {SYS_sendmsg, "sendmsg", DESCRIPTOR}, {SYS_shutdown, "shutdown", DESCRIPTOR}, {SYS_setsockopt, "setsockopt", DESCRIPTOR},
-  {SYS_getsockopt, "getsockopt", DESCRIPTOR}, {SYS_getsockname, "getsockname", DESCRIPTOR}, {SYS_getpeername, "getpeername", DESCRIPTOR},
-  {SYS_poll, "poll", NOTHING}, {SYS_ppoll, "ppoll", NOTHING}, {SYS_mmap, "mmap", MEMORY}, {SYS_munmap, "munmap", MEMORY}, {SYS_mremap, "mremap", MEMORY},
-  {SYS_mprotect, "mprotect", MEMORY}, {SYS_madvise, "madvise", MEMORY}, {SYS_brk, "brk", MEMORY}, {SYS_getrandom, "getrandom", NOTHING},
-  {SYS_sigaltstack, "sigaltstack", NOTHING}, {SYS_rt_sigaction, "rt_sigaction", NOTHING}, {SYS_rt_sigprocmask, "rt_sigprocmask", NOTHING},
-  {SYS_prlimit64, "prlimit64", NOTHING}, {SYS_futex, "futex", NOTHING}, {SYS_exit_group, "exit_group", NOTHING}, {SYS_exit, "exit", NOTHING},
-  {SYS_set_tid_address, "set_tid_address", NOTHING}, {SYS_set_robust_list, "set_robust_list", NOTHING}, {SYS_rseq, "rseq", NOTHING},
-  {SYS_arch_prctl, "arch_prctl", NOTHING}, {SYS_getcwd, "getcwd", NOTHING}, {SYS_readlink, "readlink", FIRST_PATH}, {SYS_execve, "execve", FIRST_PATH},
+  {SYS_read, "read", DESCRIPTOR},
+  {SYS_write, "write", DESCRIPTOR},
+  {SYS_readv, "readv", DESCRIPTOR},
+  {SYS_writev, "writev", DESCRIPTOR},
+  {SYS_pread64, "pread64", DESCRIPTOR},
+  {SYS_pwrite64, "pwrite64", DESCRIPTOR},
+  {SYS_close, "close", DESCRIPTOR},
+  {SYS_fstat, "fstat", DESCRIPTOR},
+  {SYS_lseek, "lseek", DESCRIPTOR},
+  {SYS_fcntl, "fcntl", DESCRIPTOR},
+  {SYS_dup, "dup", DESCRIPTOR},
+  {SYS_fsync, "fsync", DESCRIPTOR},
+  {SYS_flock, "flock", DESCRIPTOR},
+  {SYS_fchmod, "fchmod", DESCRIPTOR},
+  {SYS_link, "link", FIRST_PATH},
+  {SYS_linkat, "linkat", SECOND_PATH},
+  {SYS_fdatasync, "fdatasync", DESCRIPTOR},
+  {SYS_ftruncate, "ftruncate", DESCRIPTOR},
+  {SYS_ioctl, "ioctl", DESCRIPTOR},
+  {SYS_open, "open", FIRST_PATH},
+  {SYS_openat, "openat", SECOND_PATH},
+  {SYS_newfstatat, "newfstatat", SECOND_PATH},
+  {SYS_statx, "statx", SECOND_PATH},
+  {SYS_stat, "stat", FIRST_PATH},
+  {SYS_lstat, "lstat", FIRST_PATH},
+  {SYS_access, "access", FIRST_PATH},
+  {SYS_rename, "rename", FIRST_PATH},
+  {SYS_renameat, "renameat", SECOND_PATH},
+  {SYS_renameat2, "renameat2", SECOND_PATH},
+  {SYS_unlink, "unlink", FIRST_PATH},
+  {SYS_unlinkat, "unlinkat", SECOND_PATH},
+  {SYS_socket, "socket", NOTHING},
+  {SYS_bind, "bind", DESCRIPTOR},
+  {SYS_listen, "listen", DESCRIPTOR},
+  {SYS_accept, "accept", DESCRIPTOR},
+  {SYS_accept4, "accept4", DESCRIPTOR},
+  {SYS_connect, "connect", DESCRIPTOR},
+  {SYS_recvfrom, "recvfrom", DESCRIPTOR},
+  {SYS_sendto, "sendto", DESCRIPTOR},
+  {SYS_recvmsg, "recvmsg", DESCRIPTOR},
+  {SYS_sendmsg, "sendmsg", DESCRIPTOR},
+  {SYS_shutdown, "shutdown", DESCRIPTOR},
+  {SYS_setsockopt, "setsockopt", DESCRIPTOR},
+  {SYS_getsockopt, "getsockopt", DESCRIPTOR},
+  {SYS_getsockname, "getsockname", DESCRIPTOR},
+  {SYS_getpeername, "getpeername", DESCRIPTOR},
+  {SYS_poll, "poll", NOTHING},
+  {SYS_ppoll, "ppoll", NOTHING},
+  {SYS_mmap, "mmap", MEMORY},
+  {SYS_munmap, "munmap", MEMORY},
+  {SYS_mremap, "mremap", MEMORY},
+  {SYS_mprotect, "mprotect", MEMORY},
+  {SYS_madvise, "madvise", MEMORY},
+  {SYS_brk, "brk", MEMORY},
+  {SYS_getrandom, "getrandom", NOTHING},
+  {SYS_sigaltstack, "sigaltstack", NOTHING},
+  {SYS_rt_sigaction, "rt_sigaction", NOTHING},
+  {SYS_rt_sigprocmask, "rt_sigprocmask", NOTHING},
+  {SYS_prlimit64, "prlimit64", NOTHING},
+  {SYS_futex, "futex", NOTHING},
+  {SYS_exit_group, "exit_group", NOTHING},
+  {SYS_exit, "exit", NOTHING},
+  {SYS_set_tid_address, "set_tid_address", NOTHING},
+  {SYS_set_robust_list, "set_robust_list", NOTHING},
+  {SYS_rseq, "rseq", NOTHING},
+  {SYS_arch_prctl, "arch_prctl", NOTHING},
+  {SYS_getcwd, "getcwd", NOTHING},
+  {SYS_readlink, "readlink", FIRST_PATH},
+  {SYS_execve, "execve", FIRST_PATH},
 };
 
 static int find(long number) {
@@ -71,19 +130,20 @@ static enum about about_of(long number) {
   return place < 0 ? NOTHING : CALLS[place].about;
 }
 
-// Copies the path that stands in the process at this address.
+// Copies the path at this address of the process.
 static void copy_path(pid_t child, unsigned long address, char *path, size_t size) {
   struct iovec here = {path, size - 1}, there = {(void *)address, size - 1};
   ssize_t count = process_vm_readv(child, &here, 1, &there, 1, 0);
   if (count < 0) {
-    // the text may end before a page that is not there
-    here.iov_len = there.iov_len = 4096 - address % 4096 < size - 1 ? 4096 - address % 4096 : size - 1;
+    // the text may end before a page that is not mapped
+    here.iov_len = there.iov_len =
+        4096 - address % 4096 < size - 1 ? 4096 - address % 4096 : size - 1;
     count = process_vm_readv(child, &here, 1, &there, 1, 0);
   }
   path[count < 0 ? 0 : count] = 0;
 }
 
-// What a call is about: the name of its file, or of the file behind its descriptor.
+// The file of a call: by its path, or by its descriptor.
 static void tell_about(pid_t child, const struct user_regs_struct *regs, char *path, size_t size) {
   char link[64];
   ssize_t count;
@@ -102,7 +162,7 @@ static void tell_about(pid_t child, const struct user_regs_struct *regs, char *p
     if (*letter == '\n') *letter = '?';
 }
 
-// Whether the dynamic loader made the call, and not the program and its libraries.
+// Whether the dynamic loader made the call, not the program or its libraries.
 static int is_loader(pid_t child, unsigned long address) {
   char name[64], line[512];
   unsigned long start, end;
@@ -110,12 +170,14 @@ static int is_loader(pid_t child, unsigned long address) {
   snprintf(name, sizeof name, "/proc/%d/maps", child);
   FILE *maps = fopen(name, "r");
   while (maps && fgets(line, sizeof line, maps))
-    if (sscanf(line, "%lx-%lx", &start, &end) == 2 && start <= address && address < end) found = strstr(line, "/ld-") != NULL || strstr(line, "ld-linux") != NULL;
+    if (sscanf(line, "%lx-%lx", &start, &end) == 2 && start <= address && address < end)
+      found = strstr(line, "/ld-") != NULL || strstr(line, "ld-linux") != NULL;
   if (maps) fclose(maps);
   return found;
 }
 
-static void report(FILE *told, pid_t child, long index, const struct user_regs_struct *entry, long long answer, const char *path) {
+static void report(FILE *told, pid_t child, long index, const struct user_regs_struct *entry,
+                   long long answer, const char *path) {
   int place = find((long)entry->orig_rax);
   if (place < 0) fprintf(told, "%ld call-%lld", index, (long long)entry->orig_rax);
   else fprintf(told, "%ld %s", index, CALLS[place].name);
@@ -123,11 +185,13 @@ static void report(FILE *told, pid_t child, long index, const struct user_regs_s
   fflush(told);
 }
 
-// Whether the process was stopped since its stack could not grow: it meant a place near the end of its stack.
+// Whether the process stopped because its stack could not grow: the address is near the end of its
+// stack.
 static int is_stack(pid_t child) {
   siginfo_t told;
   struct user_regs_struct regs;
-  if (ptrace(PTRACE_GETSIGINFO, child, 0, &told) < 0 || ptrace(PTRACE_GETREGS, child, 0, &regs) < 0) return 0;
+  if (ptrace(PTRACE_GETSIGINFO, child, 0, &told) < 0 || ptrace(PTRACE_GETREGS, child, 0, &regs) < 0)
+    return 0;
   long long below = (long long)regs.rsp - (long long)told.si_addr;
   return told.si_signo == SIGSEGV && told.si_code > 0 && below < NEAR && below > -NEAR;
 }
@@ -155,7 +219,8 @@ int main(int count, char **words) {
   const char *how = words[2];
   long index = atol(words[3]), number = 0;
   long long value = atoll(words[4]);
-  int is_list = !strcmp(how, "list"), is_limit = !strcmp(how, "limit"), running = 0, inside = 0, last = -1;
+  int is_list = !strcmp(how, "list"), is_limit = !strcmp(how, "limit"), running = 0, inside = 0,
+      last = -1;
   FILE *told = fopen(words[1], "we");
   if (!told) return 125;
   pid_t child = fork();
@@ -203,7 +268,7 @@ int main(int count, char **words) {
         report(told, child, number, &entry, 0, path);
         kill(child, SIGKILL);
       } else if (changes && (!strncmp(how, "fail", 4) || !strcmp(how, "give"))) {
-        // a break that cannot be moved is told by where it stands, and never by an error
+        // a failed `brk` returns the current break, never an error
         if (regs.orig_rax == SYS_brk) regs.rdi = 0;
         else regs.orig_rax = -1;
         ptrace(PTRACE_SETREGS, child, 0, &regs);

@@ -1,6 +1,9 @@
-"""What `radio` answers to words and files, by the second reading in this folder: status, standard output, the refusal's number, and the files that it makes.
-The order of the refusals is that of docs/formats and docs/use/commands.md: a command checks its words, opens its files from left to right, and reads and checks
-each in turn (`sources` and `lay` open each where they read it); `merge` and `render` make OUT.part once their files are open, the others once all is known."""
+"""The answers of `radio` to words and files, by the second reading in this folder: status, standard
+output, the error number, and the files that it makes. The order of the errors is that of
+docs/formats and docs/use/commands.md: a command checks its words, opens its files from left to
+right, and reads and checks each in turn (`sources` and `lay` open each file when they read it).
+`merge` and `render` make OUT.part after opening their files, the others at the end.
+"""
 import hashlib
 
 from formats.diff_text import diff_by, side
@@ -23,20 +26,22 @@ from formats.warnings_text import warnings_text
 
 WRITE, READ = 37, 45
 OPTIONS = {
-    "rate": "48000", "bits": "24", "channels": "1", "description": "", "originator": "", "reference": "", "date": "2000-01-01", "time": "00:00:00",
-    "time-reference": "0"}
+    "rate": "48000", "bits": "24", "channels": "1", "description": "", "originator": "",
+    "reference": "", "date": "2000-01-01", "time": "00:00:00", "time-reference": "0",
+}
 # more frames than these are not mixed here
 FRAMES_MIXED = 20_000
-# so many bytes of samples leave room for the rest of the file
+# with this number of bytes of samples, the rest of the file still fits
 BYTES_THAT_FIT = 3_900_000_000
 
 
 class TooMuch(Exception):
-    """A file that is too long to be worked out here."""
+    """A file that would take too long to work out here."""
 
 
 class Answer:
-    """What a command comes to: the number of its refusal if it has one, its output, and the files that it makes with their bytes."""
+    """The result of a command: its error number if it fails, its output, and the files that it
+    makes."""
 
     def __init__(self, number=None, output=b"", made=None):
         self.number, self.output, self.made = number, output, made or {}
@@ -51,7 +56,7 @@ class Answer:
 
 
 class Folder:
-    """The files by their names, what comes to standard input, and whether what is made may not be there."""
+    """The files by their names, standard input, and whether OUT must not exist."""
 
     def __init__(self, files, stdin, is_new=False):
         self.files, self.stdin, self.is_new = files, stdin, is_new
@@ -62,18 +67,28 @@ class Folder:
         return [self.files[name] for name in names]
 
     def logs(self, names):
-        """The union of the logs of these names, or of the one on standard input where there is none."""
+        """The union of the logs with these names, or the log on standard input if there are
+        none."""
         return union([read_log(data) for data in (self.open(*names) if names else [self.stdin])])
 
     def part(self, out):
-        """OUT.part is made, which may not be there; a name of no letter is not known to be none before the part gets it."""
-        refuse_unless("/" not in out and out + ".part" not in self.files and not (self.is_new and out in self.files), WRITE)
+        """Makes OUT.part, which must not exist. An empty name is rejected only when the part is
+        made."""
+        refuse_unless(
+            "/" not in out
+            and out + ".part" not in self.files
+            and not (self.is_new and out in self.files),
+            WRITE,
+        )
 
 
 def formed(words, rate=None):
-    """The words beside those that ask for another form of lines, and what makes a text one of that form, at this rate or at the one that is asked for."""
+    """The words without those that ask for another form of lines, and the function that gives a
+    text that form, at this rate or at the given one."""
     flags = {"--time", "--json"} & set(words)
-    others, options = parted([word for word in words if word not in flags], {"rate": "48000"}, {"--fields", "--view"})
+    others, options = parted(
+        [word for word in words if word not in flags], {"rate": "48000"}, {"--fields", "--view"}
+    )
 
     def form(text):
         text = times_text(rate or int(options["rate"]), text) if "--time" in flags else text
@@ -95,10 +110,20 @@ def list_ops(folder, *words):
 
 
 def timeline(folder, *words):
-    names, options = parted([word for word in words if word not in ("--svg", "--time")], {"width": "60", "rate": "48000"}, several=("source",))
+    names, options = parted(
+        [word for word in words if word not in ("--svg", "--time")],
+        {"width": "60", "rate": "48000"},
+        several=("source",),
+    )
     recordings = [Wave(data) for data in folder.open(*names, *options["source"])[len(names):]]
     session, rate = session_of(folder.logs(names)), int(options["rate"])
-    return Answer(output=(svg_text(rate, session, recordings) if "--svg" in words else timeline_text(session, int(options["width"]), rate, "--time" in words)).encode())
+    return Answer(
+        output=(
+            svg_text(rate, session, recordings)
+            if "--svg" in words
+            else timeline_text(session, int(options["width"]), rate, "--time" in words)
+        ).encode()
+    )
 
 
 def merge(folder, out, *names):
@@ -115,17 +140,22 @@ def pull(folder, *words):
         folder.part(log)
     logs = [read_log(data) for data in inputs]
     together = union(logs)
-    # of each in order what is new to the logs before it, and what these have
+    # for each log in order: what is new to the logs before it, and what these have
     seen, lines = {dot(op) for op in logs[0]}, b""
     for name, ops in zip(names, logs[1:]):
         dots = {dot(op) for op in ops}
         lines += b"from %s new %d shared %d\n" % (name.encode(), len(dots - seen), len(dots & seen))
         seen |= dots
-    return Answer(output=lines + b"ops %d\n" % len(together), made={} if is_dry else {log: write_log(together)})
+    return Answer(
+        output=lines + b"ops %d\n" % len(together),
+        made={} if is_dry else {log: write_log(together)},
+    )
 
 
 def edit(folder, *words):
-    (replica, log, script, out), options = parted([word for word in words if word != "--time"], {"rate": "48000"})
+    (replica, log, script, out), options = parted(
+        [word for word in words if word != "--time"], {"rate": "48000"}
+    )
     name = read_replica(replica)
     before, lines = folder.open(log, script)
     ops = read_log(before)
@@ -162,14 +192,20 @@ def info(folder, *words):
 def sources(folder, *words):
     (log, *names), form = formed([word for word in words if word not in ("--missing", "--files")])
     session = session_of(read_log(*folder.open(log)))
-    return Answer(output=form(sources_text(session, [(name, *folder.open(name)) for name in names], words)))
+    return Answer(
+        output=form(sources_text(session, [(name, *folder.open(name)) for name in names], words))
+    )
 
 
 def find(folder, *words):
     log, kind, what = [word for word in words if word not in ("--one", "--wave")]
     if kind == "clip":
         what = hashlib.sha256(*folder.open(what)).digest() if "--wave" in words else source_of(what)
-    return Answer(output=find_text(session_of(read_log(*folder.open(log))), kind, what, "--one" in words).encode())
+    return Answer(
+        output=find_text(
+            session_of(read_log(*folder.open(log))), kind, what, "--one" in words
+        ).encode()
+    )
 
 
 def diff(folder, *words):
@@ -179,7 +215,7 @@ def diff(folder, *words):
 
 
 def stamps_of(words):
-    """The stamps whose texts these words are, all of them."""
+    """The stamps in these words, if all of them are stamps."""
     try:
         return [read_stamp(word.encode()) for word in words]
     except Refused as refused:
@@ -198,13 +234,20 @@ def lay(folder, *words):
     for name in names:
         files += folder.open(name)
         Wave(files[-1])
-    return Answer(output=lay_text(track, files, **{name: int(value) for name, value in options.items()}).encode())
+    return Answer(
+        output=lay_text(
+            track, files, **{name: int(value) for name, value in options.items()}
+        ).encode()
+    )
 
 
 def parted_well(words):
-    """The names among the words, the options of the head and those of the format, which both have to be taken."""
+    """The names among the words, the options of the head and those of the format, all of which must
+    be valid."""
     names, options = parted(words)
-    head = {name: options[name] for name in ("description", "originator", "reference", "date", "time")}
+    head = {
+        name: options[name] for name in ("description", "originator", "reference", "date", "time")
+    }
     check_head(head)
     layout = [int(options[name]) for name in ("rate", "bits", "channels")]
     check_format(*layout)
@@ -235,9 +278,13 @@ def check(folder, *words):
 
 
 def parted(words, defaults=OPTIONS, flags=(), several=()):
-    """The names among the words of `render`, or of another command whose options these are, and its options; flags are passed over, and of `several` each
-    value counts."""
-    names, options, left = [], dict(defaults, **{name: [] for name in several}), [word for word in words if word not in flags]
+    """The names among the words of `render`, or of another command with these options, and its
+    options. Flags are skipped, and for the options `several` each value counts."""
+    names, options, left = (
+        [],
+        dict(defaults, **{name: [] for name in several}),
+        [word for word in words if word not in flags],
+    )
     while left:
         word = left.pop(0)
         name, is_given, value = word[2:].partition("=")
@@ -252,13 +299,20 @@ def parted(words, defaults=OPTIONS, flags=(), several=()):
     return names, options
 
 
-COMMANDS = {"view": view, "log": list_ops, "timeline": timeline, "merge": merge, "pull": pull, "edit": edit, "have": have, "lack": lack, "take": take, "info": info, "sources": sources, "find": find, "diff": diff, "revert": revert, "lay": lay, "check": check, "render": render}
+COMMANDS = {
+    "view": view, "log": list_ops, "timeline": timeline, "merge": merge, "pull": pull, "edit": edit,
+    "have": have, "lack": lack, "take": take, "info": info, "sources": sources, "find": find,
+    "diff": diff, "revert": revert, "lay": lay, "check": check, "render": render,
+}
 
 
 def answer(words, files, stdin=b""):
-    """What the program answers to these words where these files lie, by name."""
+    """The program's answer to these words with these files, by name."""
     try:
-        told = COMMANDS[words[0]](Folder(files, stdin, "--new" in words), *[word for word in words[1:] if word not in ("--", "--new", "--no-sync")])
+        told = COMMANDS[words[0]](
+            Folder(files, stdin, "--new" in words),
+            *[word for word in words[1:] if word not in ("--", "--new", "--no-sync")],
+        )
         return Answer(WRITE, told.output) if "" in told.made else told
     except Refused as refused:
         return Answer(refused.number)

@@ -57,7 +57,7 @@ IN_A_LINE = 48
 WIDTH = 100
 # characters that one cannot see: controls, formats, and bytes that are not UTF-8
 ODD = "\0-\x1f\x7f-\x9f\xad\u200b-\u200f\u2028-\u202e\u2060-\u206f\ufeff\ud800-\udfff"
-# those of them that texts rarely have; each is one byte
+# those of them that are rare in texts; each is one byte
 NO_TEXT = "\0-\x08\x0b\x0c\x0e-\x1f\x7f\ud800-\udfff"
 ESCAPES = {"\n": "\\n", "\r": "\\r", "\t": "\\t", "\\": "\\\\", "'": "\\'"}
 MEANT = {text[1].encode(): char.encode() for char, text in ESCAPES.items()}
@@ -72,7 +72,8 @@ class Unreadable(Exception):
 
 @dataclasses.dataclass
 class Case:
-    """A run of the program and what it has to do. Words and contents are bytes, names are text."""
+    """A run of the program and its expected result. Words and contents are bytes, names are
+    text."""
 
     command: str
     name: str
@@ -373,7 +374,7 @@ class Reader:
             raise ValueError("unknown")
 
     def once(self, key):
-        """Notes that the case has this; named bytes are before all cases."""
+        """Records that the case has this; named bytes are before all cases."""
         if key[0] == "bytes":
             if self.cases or key[1] in self.named:
                 raise ValueError("twice, or after a case")

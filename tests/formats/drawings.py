@@ -1,4 +1,4 @@
-"""Scripts, wave files and sessions of recordings drawn at random, mostly ones that are taken."""
+"""Scripts, wave files and sessions of recordings drawn at random, mostly valid ones."""
 import hashlib
 import struct
 
@@ -9,7 +9,10 @@ from formats.sessions import FITS
 TITLES = ["", "News", "  two  ", "$1", "Wetter für morgen", "新聞", "t" * 255]
 FRAMES = ["0", "1", "2", "480", "4294967295"]
 FADES = ["0", "0", "1", "480", "1048576"]
-ODD_WORDS = ["", "head", "$0", "$99", "00", "+1", "-1", "1048577", "4294967296", "1/0", "65536/1", "on", "off", "add-track", "#", "\t", "1.1.x", "0x1", "é"]
+ODD_WORDS = [
+    "", "head", "$0", "$99", "00", "+1", "-1", "1048577", "4294967296", "1/0", "65536/1", "on",
+    "off", "add-track", "#", "\t", "1.1.x", "0x1", "é",
+]
 
 
 class Script:
@@ -19,10 +22,16 @@ class Script:
         self.draw, self.ops, self.lines, self.made = draw, ops, [], []
 
     def item(self, role):
-        """An item of the log or of an earlier line, mostly one that fits."""
+        """An item of the log or of an earlier line, mostly of the right kind."""
         draw = self.draw
-        fits = ["$%d" % line for line, kind in self.made if kind in FITS[role] or draw.random() < 0.02]
-        fits += [logs.stamp_text(*op.own) for op in self.ops if op.kind in FITS[role] or draw.random() < 0.02]
+        fits = [
+            "$%d" % line for line, kind in self.made if kind in FITS[role] or draw.random() < 0.02
+        ]
+        fits += [
+            logs.stamp_text(*op.own)
+            for op in self.ops
+            if op.kind in FITS[role] or draw.random() < 0.02
+        ]
         return draw.choice(fits) if fits else "1.1." + logs.name(A)
 
     def after(self):
@@ -31,7 +40,12 @@ class Script:
     def words(self, word):
         draw = self.draw
         at, title = draw.choice(FRAMES), draw.choice(TITLES)
-        offset, length = draw.choice(FRAMES), draw.choice(["1", "2", "480", "4294967295", "0"] if draw.random() < 0.2 else ["1", "20"])
+        offset, length = (
+            draw.choice(FRAMES),
+            draw.choice(
+                ["1", "2", "480", "4294967295", "0"] if draw.random() < 0.2 else ["1", "20"]
+            ),
+        )
         gain = "%s/%s" % (draw.choice(["0", "1", "65535"]), draw.choice(["1", "2", "65535"]))
         return {
             "add-track": lambda: [self.after(), title],
@@ -55,7 +69,13 @@ class Script:
         if draw.random() < 0.1:
             self.lines.append(draw.choice(["", "#", "# a remark", "#add-track head x"]))
             return
-        word = draw.choice(["add-track", "add-track", "add-clip", "add-marker", "move-track", "move-clip", "trim-clip", "gain", "mute", "remove", "restore", "move-marker", "retitle", "fade", "marker-length"])
+        word = draw.choice(
+            [
+                "add-track", "add-track", "add-clip", "add-marker", "move-track", "move-clip",
+                "trim-clip", "gain", "mute", "remove", "restore", "move-marker", "retitle", "fade",
+                "marker-length",
+            ]
+        )
         words = [word] + self.words(word)
         if word.startswith("add-"):
             self.made.append((len(self.lines) + 1, word.replace("-", "_")))
@@ -74,7 +94,7 @@ def script(draw, ops):
 
 
 def damaged_script(draw, lines):
-    """A script of which a word is another one, or a line stands elsewhere."""
+    """A script in which a word is replaced or a line is moved."""
     some = list(lines.lines)
     at = draw.randrange(len(some))
     words = some[at].split(" ")
@@ -94,13 +114,19 @@ def damaged_script(draw, lines):
 
 
 def wave(draw, rate=None, most=60):
-    """A recording with a head, cue points, labels and lengths, some of them odd."""
+    """A recording with a head, cue points, labels and lengths, some of them unusual."""
     bits, channels = draw.choice([8, 16, 24, 32]), draw.choice([1, 1, 2, 3])
     rate = draw.choice([8000, 44100, 48000, 384001]) if rate is None else rate
     sound = draw.randbytes(draw.randint(0, most) * channels * bits // 8 + draw.choice([0, 0, 0, 1]))
     shape = waves.extensible if draw.random() < 0.3 else waves.fmt
     chunks = [shape(channels, rate, bits), waves.data(sound)]
-    more = [lambda: waves.chunk(b"JUNK", draw.randbytes(draw.randint(0, 9))), lambda: extension(draw), lambda: cues(draw), lambda: labels(draw), lambda: labels(draw)]
+    more = [
+        lambda: waves.chunk(b"JUNK", draw.randbytes(draw.randint(0, 9))),
+        lambda: extension(draw),
+        lambda: cues(draw),
+        lambda: labels(draw),
+        lambda: labels(draw),
+    ]
     chunks += [part() for part in more if draw.random() < 0.5]
     if draw.random() < 0.2:
         draw.shuffle(chunks)
@@ -110,29 +136,53 @@ def wave(draw, rate=None, most=60):
 
 
 def words_of(draw):
-    return draw.choice([b"", b"News", b"a\\b", b"\x7f\xff\x01", "Köln".encode(), b"n" * 40, b"cut\0off"])
+    return draw.choice(
+        [b"", b"News", b"a\\b", b"\x7f\xff\x01", "Köln".encode(), b"n" * 40, b"cut\0off"]
+    )
 
 
 def extension(draw):
-    return waves.chunk(b"bext", waves.bext(
-        words_of(draw), words_of(draw)[:32], words_of(draw)[:32], b"2026-11-23", words_of(draw)[:8], draw.choice([0, 1, 2**32, 2**64 - 1]), draw.randint(0, 3),
-        words_of(draw), draw.randbytes(254)))
+    return waves.chunk(
+        b"bext",
+        waves.bext(
+            words_of(draw),
+            words_of(draw)[:32],
+            words_of(draw)[:32],
+            b"2026-11-23",
+            words_of(draw)[:8],
+            draw.choice([0, 1, 2**32, 2**64 - 1]),
+            draw.randint(0, 3),
+            words_of(draw),
+            draw.randbytes(254),
+        ),
+    )
 
 
 def cues(draw):
-    points = [waves.point(draw.randint(0, 4), draw.choice([0, 1, 480, 2**32 - 1])) for _ in range(draw.randint(0, 4))]
+    points = [
+        waves.point(draw.randint(0, 4), draw.choice([0, 1, 480, 2**32 - 1]))
+        for _ in range(draw.randint(0, 4))
+    ]
     return waves.cue(*points, count=draw.choice([None, None, None, 0, 1, 9, 2**32 - 1]))
 
 
 def labels(draw):
     kinds = [
         lambda: waves.labl(draw.randint(0, 4), words_of(draw) + draw.choice([b"\0", b""])),
-        lambda: waves.ltxt(draw.randint(0, 4), draw.choice([0, 1, 480, 2**32 - 1]), draw.choice([b"rgn ", b"beat", bytes(4)]), draw.randbytes(8), draw.choice([b"", words_of(draw)])),
+        lambda: waves.ltxt(
+            draw.randint(0, 4),
+            draw.choice([0, 1, 480, 2**32 - 1]),
+            draw.choice([b"rgn ", b"beat", bytes(4)]),
+            draw.randbytes(8),
+            draw.choice([b"", words_of(draw)]),
+        ),
         lambda: waves.chunk(b"note", struct.pack("<I", 1) + b"x"),
         lambda: waves.chunk(b"labl", b"\1\0"),
         lambda: waves.chunk(b"ltxt", struct.pack("<II", draw.randint(0, 4), 1) + bytes(11)),
     ]
-    return waves.adtl(*[draw.choices(kinds, [8, 8, 1, 1, 1])[0]() for _ in range(draw.randint(0, 4))])
+    return waves.adtl(
+        *[draw.choices(kinds, [8, 8, 1, 1, 1])[0]() for _ in range(draw.randint(0, 4))]
+    )
 
 
 def session(draw, files):
@@ -149,42 +199,84 @@ def session(draw, files):
         tracks.append(own())
         ops.append(logs.add_track(tracks[-1], None, "T"))
     for _ in range(draw.randint(0, 6)):
-        source = hashlib.sha256(draw.choice(files)).digest() if files and draw.random() < 0.97 else bytes(32)
+        source = (
+            hashlib.sha256(draw.choice(files)).digest()
+            if files and draw.random() < 0.97
+            else bytes(32)
+        )
         clips.append(own())
-        ops.append(logs.add_clip(clips[-1], source, draw.choice(tracks), draw.randint(0, 40), draw.choice([0, 0, draw.randint(0, 30), 2**32 - 1]), draw.randint(1, 50)))
+        ops.append(
+            logs.add_clip(
+                clips[-1],
+                source,
+                draw.choice(tracks),
+                draw.randint(0, 40),
+                draw.choice([0, 0, draw.randint(0, 30), 2**32 - 1]),
+                draw.randint(1, 50),
+            )
+        )
     for _ in range(draw.randint(0, 8)):
         some = tracks + clips
         change = draw.choice(["gain", "mute", "move", "trim", "fade", "marker", "remove"])
         if change == "gain":
-            ops.append(logs.set_gain(own(), draw.choice(some), draw.choice([0, 1, 3, 65535]), draw.choice([1, 2, 7, 65535])))
+            ops.append(
+                logs.set_gain(
+                    own(),
+                    draw.choice(some),
+                    draw.choice([0, 1, 3, 65535]),
+                    draw.choice([1, 2, 7, 65535]),
+                )
+            )
         elif change == "mute":
             ops.append(logs.set_mute(own(), draw.choice(some), draw.choice([0, 0, 1])))
         elif change == "move" and clips:
-            ops.append(logs.move_clip(own(), draw.choice(clips), draw.choice(tracks), draw.randint(0, 40)))
+            ops.append(
+                logs.move_clip(own(), draw.choice(clips), draw.choice(tracks), draw.randint(0, 40))
+            )
         elif change == "trim" and clips:
-            ops.append(logs.trim_clip(own(), draw.choice(clips), draw.randint(0, 30), draw.randint(1, 50)))
+            ops.append(
+                logs.trim_clip(own(), draw.choice(clips), draw.randint(0, 30), draw.randint(1, 50))
+            )
         elif change == "fade" and clips:
-            ops.append(logs.set_fade(own(), draw.choice(clips), draw.choice([0, 1, draw.randint(0, 60), 1048576]), draw.choice([0, 1, draw.randint(0, 60), 1048576])))
+            ops.append(
+                logs.set_fade(
+                    own(),
+                    draw.choice(clips),
+                    draw.choice([0, 1, draw.randint(0, 60), 1048576]),
+                    draw.choice([0, 1, draw.randint(0, 60), 1048576]),
+                )
+            )
         elif change == "remove":
             item = draw.choice(some)
             ops.append(logs.remove(own(), item, [item]))
         else:
             ops.append(logs.add_marker(own(), draw.randint(0, 60), draw.choice(TITLES)))
             if draw.random() < 0.5:
-                ops.append(logs.set_marker_length(own(), ops[-1][0], draw.choice([0, 1, draw.randint(0, 60), 2**32 - 1])))
+                ops.append(
+                    logs.set_marker_length(
+                        own(), ops[-1][0], draw.choice([0, 1, draw.randint(0, 60), 2**32 - 1])
+                    )
+                )
     return ops
 
 
 def options(draw, rate):
-    """Words of `render` behind the names, mostly ones that are taken."""
+    """Words of `render` after the names, mostly valid ones."""
     words = []
     if draw.random() < 0.5:
         words += ["--bits", draw.choice(["16"] * 9 + ["24"] * 9 + ["8", "32"])]
     if draw.random() < 0.4:
         words += ["--channels", draw.choice(["1"] * 6 + ["2"] * 12 + ["3", "0"])]
     if rate != 48000 or draw.random() < 0.2:
-        words += ["--rate", str(rate) if draw.random() < 0.95 else draw.choice(["0", "384001", "47999"])]
-    for name, texts in (("description", ["News", "d" * 256, "d" * 257, "é"]), ("originator", ["Radio", "o" * 33]), ("date", ["2026-11-24", "2026-1-1"]), ("time", ["09:00:00", "9:00:00"])):
+        words += [
+            "--rate", str(rate) if draw.random() < 0.95 else draw.choice(["0", "384001", "47999"])
+        ]
+    for name, texts in (
+        ("description", ["News", "d" * 256, "d" * 257, "é"]),
+        ("originator", ["Radio", "o" * 33]),
+        ("date", ["2026-11-24", "2026-1-1"]),
+        ("time", ["09:00:00", "9:00:00"]),
+    ):
         if draw.random() < 0.1:
             words += ["--" + name, draw.choice(texts[:1] * 12 + texts)]
     return words

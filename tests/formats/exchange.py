@@ -1,4 +1,5 @@
-"""Messages of the exchange as bytes, written from the format alone (docs/formats/log.md) and not by the program under test."""
+"""Messages of the exchange as bytes, written from the format alone (docs/formats/log.md) and not by
+the program under test."""
 import struct
 
 LONGEST = 8388608
@@ -9,10 +10,14 @@ def frame(body):
 
 
 def have(replicas):
-    """A Have: of each replica, rising, its run and its extras."""
+    """A Have: for each replica, in rising order, its run and its extras."""
     body = b"\1" + struct.pack(">I", len(replicas))
     for replica, run, extras in replicas:
-        body += replica.to_bytes(16, "big") + struct.pack(">QI", run, len(extras)) + b"".join(struct.pack(">Q", extra) for extra in extras)
+        body += (
+            replica.to_bytes(16, "big")
+            + struct.pack(">QI", run, len(extras))
+            + b"".join(struct.pack(">Q", extra) for extra in extras)
+        )
     return frame(body)
 
 
@@ -31,12 +36,13 @@ def summary(ops):
 
 
 def ops_body(ops):
-    """The body of the message of these operations, in the order in which they are given."""
+    """The body of the message with these operations, in the given order."""
     return b"\2" + struct.pack(">I", len(ops)) + b"".join(text for _, text in ops)
 
 
 def ops(some):
-    """Operations by rising dot, cut into messages from the left, each as long as it can be."""
+    """Operations in the order of their dots, cut into messages from the left, each as long as
+    possible."""
     rising = sorted(some, key=lambda op: (op[0][1], op[0][2]))
     frames, taken, length = b"", [], 5
     for op in rising:

@@ -7,17 +7,20 @@ DIGITS = set("0123456789abcdefABCDEF")
 
 
 def source_of(what):
-    """The digest that a word says."""
+    """The digest in a word."""
     refuse_unless(len(what) == 64 and set(what) <= DIGITS, BAD_DIGEST)
     return bytes.fromhex(what)
 
 
 def find_text(session, kind, what, is_one=False):
-    """Of a session: the stamps of what is found, a line each. `what` is a title, or of clips a digest."""
+    """The stamps that are found in a session, one per line. `what` is a title or, for clips, a
+    digest."""
     items = {
         "track": lambda: [track for track in session.tracks if track.title == what],
         "marker": lambda: [marker for marker in session.markers if marker.title == what],
-        "clip": lambda: [clip for track in session.tracks for clip in track.clips if clip.source == what],
+        "clip": lambda: [
+            clip for track in session.tracks for clip in track.clips if clip.source == what
+        ],
     }[kind]()
     if is_one and len(items) != 1:
         raise Refused(NO_SUCH_ITEM)

@@ -10,7 +10,8 @@ BAD_TEXT, ZERO_LENGTH, RATE_DIFFERS, TOO_LONG = 4, 6, 34, 35
 
 
 def check_track(word):
-    """The text of a stamp, or `$` and the number of a line, from 1 on and of 32 bits."""
+    """Checks the word: the text of a stamp, or `$` and the number of a line, from 1 on, in 32
+    bits."""
     if re.fullmatch(r"\$[1-9][0-9]{0,9}", word) and int(word[1:]) < 1 << 32:
         return
     try:
@@ -20,7 +21,7 @@ def check_track(word):
 
 
 def lay_text(track, files, at=0, gap=0, rate=48000):
-    """Of the bytes of files, in their order."""
+    """The text for the bytes of files, in their order."""
     recordings = [(hashlib.sha256(data).hexdigest(), Wave(data)) for data in files]
     lines = ""
     for digest, wave in recordings:

@@ -1,25 +1,46 @@
-"""The lines of texts and of scripts, word by word, and their other forms: JSON, times in the place of frames, and frames in the place of times, by
-docs/use/output.md alone and not by the program under test."""
+"""The lines of texts and of scripts, word by word, and their other forms: JSON, times in place of
+frames, and frames in place of times, by docs/use/output.md alone and not by the program under test.
+"""
 import json
 import re
 from decimal import Decimal, localcontext
 from fractions import Fraction
 from functools import cache
 
-# what follows a key: names, each with how it is told; `rest` is all of the line that is left, `all` each of its words
+# the words after a key: names, each with its kind; `rest` is the remaining line, `all` each of its
+# words
 ONE, NUMBER, FRAMES, FLAG, REST, ALL = "word", "number", "frames", "flag", "rest", "all"
-KEYS = {key: [(key, kind)] for kind, keys in (
-    (ONE, "track clip marker place source digest unused needs covered past-end one-channel behind gain"),
-    (NUMBER, "held operations warnings rate channels bits bext clips audible refused left right both clashes cue missing"),
-    (FRAMES, "at offset len end frames time-reference"),
-    (FLAG, "mute"),
-    (REST, "title label description originator reference date time history file")) for key in keys.split()}
+KEYS = {
+    key: [(key, kind)]
+    for kind, keys in (
+        (
+            ONE,
+            (
+                "track clip marker place source digest unused needs covered past-end one-channel "
+                "behind gain"
+            ),
+        ),
+        (
+            NUMBER,
+            (
+                "held operations warnings rate channels bits bext clips audible refused left right "
+                "both clashes cue missing"
+            ),
+        ),
+        (FRAMES, "at offset len end frames time-reference"),
+        (FLAG, "mute"),
+        (REST, "title label description originator reference date time history file"),
+    )
+    for key in keys.split()
+}
 KEYS["fade"] = [("fade", FRAMES, FRAMES)]
 KEYS["tags"] = [("tags", ALL)]
 ACTS = {
     "add-track": [("after", ONE), ("title", REST)],
     "move-track": [("track", ONE), ("after", ONE)],
-    "add-clip": [("source", ONE), ("track", ONE), ("at", FRAMES), ("offset", FRAMES), ("len", FRAMES)],
+    "add-clip": [
+        ("source", ONE), ("track", ONE), ("at", FRAMES), ("offset", FRAMES), ("len", FRAMES)
+    ],
     "move-clip": [("clip", ONE), ("track", ONE), ("at", FRAMES)],
     "trim-clip": [("clip", ONE), ("offset", FRAMES), ("len", FRAMES)],
     "gain": [("item", ONE), ("gain", ONE)],
@@ -35,7 +56,8 @@ ACTS = {
 
 
 def parts(line):
-    """The parts of a line of a text: each its name, or none of a key, how its words are told, and these."""
+    """The parts of a line of a text: for each its name, or None for a key, the kind of its words,
+    and the words."""
     words, found = line.split(" "), []
 
     def take(slots):
@@ -89,7 +111,14 @@ def json_line(line):
             members.append((name, [value(kind, word) for kind, word in zip(kinds, told)]))
         else:
             members.append((name, value(kinds[0], told[0])))
-    return "{" + ",".join(json.dumps(name) + ":" + json.dumps(told, ensure_ascii=False, separators=(",", ":")) for name, told in members) + "}"
+    return (
+        "{"
+        + ",".join(
+            json.dumps(name) + ":" + json.dumps(told, ensure_ascii=False, separators=(",", ":"))
+            for name, told in members
+        )
+        + "}"
+    )
 
 
 def json_text(text):
@@ -101,7 +130,11 @@ def clock(ms):
 
 
 def time_word(rate, word):
-    return clock(int(word) * 1000 // rate) if re.fullmatch("0|[1-9][0-9]*", word) and int(word) <= 1 << 50 else word
+    return (
+        clock(int(word) * 1000 // rate)
+        if re.fullmatch("0|[1-9][0-9]*", word) and int(word) <= 1 << 50
+        else word
+    )
 
 
 def times_line(rate, line):
@@ -110,7 +143,9 @@ def times_line(rate, line):
         if kinds is None:
             words += told or [name]
         elif len(kinds) == len(told):
-            words += [time_word(rate, word) if kind == FRAMES else word for kind, word in zip(kinds, told)]
+            words += [
+                time_word(rate, word) if kind == FRAMES else word for kind, word in zip(kinds, told)
+            ]
         else:
             words += told
     return " ".join(words)
@@ -121,8 +156,12 @@ def times_text(rate, text):
 
 
 def frames_word(rate, word):
-    """The nearest frame of a time, halves up; what is none, and one that is too far, stays."""
-    long, short = re.fullmatch(rb"([0-9]+):([0-5][0-9]):([0-5][0-9])(?:\.([0-9]{1,9}))?", word), re.fullmatch(rb"([0-9]+)(?:\.([0-9]{1,9}))?s", word)
+    """The nearest frame of a time, halves up. A word that is no time, or one that is too great,
+    stays."""
+    long, short = (
+        re.fullmatch(rb"([0-9]+):([0-5][0-9]):([0-5][0-9])(?:\.([0-9]{1,9}))?", word),
+        re.fullmatch(rb"([0-9]+)(?:\.([0-9]{1,9}))?s", word),
+    )
     if long:
         seconds, part = int(long[1]) * 3600 + int(long[2]) * 60 + int(long[3]), long[4]
     elif short:
@@ -136,16 +175,26 @@ def frames_word(rate, word):
 
 @cache
 def fraction(tenths):
-    """The gain with a divisor from 1 to 1000 that is nearest to the amplitude of so many tenths of a decibel, that of the smallest divisor first, where
-    the amplitude rounded to a whole number is one."""
+    """The gain with a divisor from 1 to 1000 that is nearest to the amplitude of this number of
+    tenths of a decibel, with the smallest divisor among equals; None if the amplitude is too
+    great."""
     with localcontext(prec=60):
         amplitude = Fraction(Decimal(10) ** (Decimal(tenths) / 200))
-    gains = [(den, num) for den in range(1, 1001) for num in (int(amplitude * den), int(amplitude * den) + 1) if num < 1 << 16]
-    return min((abs(Fraction(num, den) - amplitude), den, num) for den, num in gains)[:0:-1] if amplitude < 65535 else None
+    gains = [
+        (den, num)
+        for den in range(1, 1001)
+        for num in (int(amplitude * den), int(amplitude * den) + 1)
+        if num < 1 << 16
+    ]
+    return (
+        min((abs(Fraction(num, den) - amplitude), den, num) for den, num in gains)[:0:-1]
+        if amplitude < 65535
+        else None
+    )
 
 
 def gain_word(word):
-    """The fraction of decibels; what is none, and one that is too great, stays."""
+    """The fraction for decibels. A word that is no level, or one that is too great, stays."""
     found = re.fullmatch(rb"([+-]?)([0-9]{1,3})(?:\.([0-9]))?dB", word)
     if not found:
         return word
@@ -155,13 +204,23 @@ def gain_word(word):
 
 def plain_line(rate, line):
     act, *words = line.split(b" ")
-    slots = [kind for name, *kinds in ACTS.get(act.decode("latin-1"), []) for kind in (["gain"] if name == "gain" else kinds)]
+    slots = [
+        kind
+        for name, *kinds in ACTS.get(act.decode("latin-1"), [])
+        for kind in (["gain"] if name == "gain" else kinds)
+    ]
     told, left = [act], list(words)
     for kind in slots:
         if kind == REST or not left:
             break
         word = left.pop(0)
-        told.append(frames_word(rate, word) if kind == FRAMES else gain_word(word) if kind == "gain" else word)
+        told.append(
+            frames_word(rate, word)
+            if kind == FRAMES
+            else gain_word(word)
+            if kind == "gain"
+            else word
+        )
     return b" ".join(told + left)
 
 

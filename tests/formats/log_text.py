@@ -1,4 +1,6 @@
-"""The text of a log's operations, told from their bytes by docs/use/output.md alone and not by the program under test."""
+"""The text of a log's operations, from their bytes, by docs/use/output.md alone and not by the
+program under test.
+"""
 import io
 
 from formats.logs import stamp_text
@@ -12,7 +14,7 @@ def stamp(take):
     return stamp_text(number(take(8)), number(take(16)), number(take(8)))
 
 
-# by kind byte: the word of the act, and the fields of the body in their order
+# by kind byte: the word for the act, and the fields of the body in their order
 ACTS = {
     1: ("add-track", "place", "title"),
     2: ("move-track", "stamp", "place"),
@@ -29,7 +31,7 @@ ACTS = {
     13: ("fade", "stamp", "frame", "frame"),
     14: ("marker-length", "stamp", "frame"),
 }
-# how a field is told; `take` gives the next bytes
+# how a field is written; `take` returns the next bytes
 WORDS = {
     "stamp": stamp,
     "place": lambda take: stamp(take) if take(1) == b"\1" else "head",
@@ -43,18 +45,22 @@ WORDS = {
 
 
 def act_words(take):
-    """What the operation does whose next byte tells its kind."""
+    """The words for the operation whose kind is the next byte."""
     act, *fields = ACTS[take(1)[0]]
     return [act] + [WORDS[field](take) for field in fields]
 
 
 def log_line(text, held):
-    """The line of the operation of these bytes, and whether it waits."""
+    """The line for the operation with these bytes, and whether it waits."""
     take = io.BytesIO(text).read
     words = [stamp(take), "held" if held else "ready"]
     return " ".join(words + act_words(take)) + "\n"
 
 
 def log_text(ops, held=()):
-    """A line for each operation, by rising stamp, of which those of the stamps `held` wait; and how many there are."""
-    return "".join(log_line(text, own in held) for own, text in sorted(ops)) + "operations %d\n" % len(ops)
+    """A line for each operation in the order of stamps, where those with the stamps `held` wait;
+    and their numbers."""
+    return (
+        "".join(log_line(text, own in held) for own, text in sorted(ops))
+        + "operations %d\n" % len(ops)
+    )

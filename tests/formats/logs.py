@@ -1,4 +1,5 @@
-"""Operations and logs as bytes, written from the format alone (docs/formats/log.md) and not by the program under test."""
+"""Operations and logs as bytes, written from the format alone (docs/formats/log.md) and not by the
+program under test."""
 import hashlib
 import struct
 
@@ -28,7 +29,10 @@ def move_track(own, track, after):
 
 
 def add_clip(own, source, track, at, offset, length):
-    return (own, stamp(*own) + bytes([3]) + source + stamp(*track) + struct.pack(">III", at, offset, length))
+    return (
+        own,
+        stamp(*own) + bytes([3]) + source + stamp(*track) + struct.pack(">III", at, offset, length),
+    )
 
 
 def move_clip(own, clip, track, at):
@@ -48,8 +52,15 @@ def set_mute(own, item, flag):
 
 
 def remove(own, item, tags):
-    """The tags stand in the order in which they are given."""
-    return (own, stamp(*own) + bytes([8]) + stamp(*item) + struct.pack(">H", len(tags)) + b"".join(stamp(*tag) for tag in tags))
+    """The tags are in the given order."""
+    return (
+        own,
+        stamp(*own)
+        + bytes([8])
+        + stamp(*item)
+        + struct.pack(">H", len(tags))
+        + b"".join(stamp(*tag) for tag in tags),
+    )
 
 
 def restore(own, item):
@@ -85,7 +96,7 @@ def head(count, magic=b"RMTS", version=1):
 
 
 def version_of(texts):
-    """The least version of a log that has operations of these texts: by their kind bytes."""
+    """The least version of a log with operations of these texts, by their kind bytes."""
     kinds = {text[32] for text in texts if len(text) > 32}
     return 3 if 14 in kinds else 2 if 13 in kinds else 1
 
@@ -116,8 +127,12 @@ def track_line(own, text, gain=(1, 1), mute=False):
 def clip_line(own, place, at, offset, length, source, gain=(1, 1), mute=False, fades=(0, 0)):
     fade_text = " fade %d %d" % fades if any(fades) else ""
     return "clip %s place %s at %d offset %d len %d %s%s source %s\n" % (
-        stamp_text(*own), stamp_text(*place), at, offset, length, sound_text(gain, mute), fade_text, source.hex())
+        stamp_text(*own), stamp_text(*place), at, offset, length, sound_text(gain, mute), fade_text,
+        source.hex(),
+    )
 
 
 def marker_line(own, at, text, span=0):
-    return "marker %s at %d%s title %s\n" % (stamp_text(*own), at, " len %d" % span if span else "", text)
+    return "marker %s at %d%s title %s\n" % (
+        stamp_text(*own), at, " len %d" % span if span else "", text
+    )

@@ -1,5 +1,6 @@
-"""The file that `radio render` makes of a session and recordings, or the number of its refusal, by docs/formats, docs/build/model.md and docs/use/errors.md
-alone: each sample by itself."""
+"""The file that `radio render` makes of a session and recordings, or its error number, by
+docs/formats, docs/build/model.md and docs/use/errors.md alone: each sample by itself.
+"""
 import hashlib
 import re
 
@@ -23,12 +24,16 @@ def check_format(rate, bits, channels):
 
 
 def audible(session):
-    """The clips that are not muted, of each track that is not."""
-    return [(track, [clip for clip in track.clips if not clip.mute]) for track in session.tracks if not track.mute]
+    """The clips that are not muted, for each track that is not muted."""
+    return [
+        (track, [clip for clip in track.clips if not clip.mute])
+        for track in session.tracks
+        if not track.mute
+    ]
 
 
 class Mix:
-    """What is mixed of a session: `waves` are the recordings in the order in which they are named."""
+    """The mix of a session: `waves` are the recordings in the order of their names."""
 
     def __init__(self, session, waves, rate, bits, channels):
         self.session, self.rate, self.bits, self.channels = session, rate, bits, channels
@@ -43,7 +48,8 @@ class Mix:
         refuse_unless(self.size <= MOST_BYTES, TOO_LONG)
 
     def contribution(self, track, clips, frame, channel):
-        """What a track gives: its clip of the greatest place under both gains and its fades, rounded to the nearest, halves up."""
+        """The part of a track: its clip with the greatest place, with both gains and its fades,
+        rounded to the nearest, halves up."""
         covering = [clip for clip in clips if clip.at <= frame < clip.at + clip.length]
         if not covering:
             return 0
@@ -66,12 +72,22 @@ class Mix:
         return min(max((whole + (1 << (drop - 1))) >> drop, -most), most - 1)
 
     def samples(self):
-        return [self.sample(frame, channel) for frame in range(self.length) for channel in range(self.channels)]
+        return [
+            self.sample(frame, channel)
+            for frame in range(self.length)
+            for channel in range(self.channels)
+        ]
 
     def file(self, head):
         """The file, with the session's markers before its end as cue points."""
-        markers = [(marker.at, marker.title, marker.span) for marker in self.session.markers if marker.at < self.length]
-        texts = {name: text.encode() if isinstance(text, str) else text for name, text in head.items()}
+        markers = [
+            (marker.at, marker.title, marker.span)
+            for marker in self.session.markers
+            if marker.at < self.length
+        ]
+        texts = {
+            name: text.encode() if isinstance(text, str) else text for name, text in head.items()
+        }
         file = rendered(self.samples(), markers, self.rate, self.bits, self.channels, **texts)
         refuse_unless(len(file) - 8 <= MOST_IN_ALL, TOO_LONG)
         return file

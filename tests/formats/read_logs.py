@@ -1,4 +1,6 @@
-"""Operations and logs read from bytes, or the number of their refusal, by docs/formats and docs/use alone and not by the program under test."""
+"""Operations and logs read from bytes, or the error number, by docs/formats and docs/use alone and
+not by the program under test.
+"""
 import hashlib
 
 from formats import logs
@@ -7,14 +9,25 @@ from formats.sessions import Op
 
 GREATEST = 1 << 62
 TRUNCATED, BAD_TAG, BAD_FIELD = 8, 9, 10
-BAD_MAGIC, BAD_VERSION, DAMAGED, BAD_RECORD, OUT_OF_ORDER, TRAILING, CONFLICT, VERSION_TOO_HIGH = 11, 12, 13, 14, 15, 16, 17, 52
+BAD_MAGIC, BAD_VERSION, DAMAGED, BAD_RECORD, OUT_OF_ORDER, TRAILING, CONFLICT, VERSION_TOO_HIGH = (
+    11, 12, 13, 14, 15, 16, 17, 52,
+)
 NEWEST, LONGEST_FADE = 3, 1048576
 
-# by kind byte: the kind, and its fields in their order, each with how it is read
+# by kind byte: the kind, and its fields in their order, each with its reader
 KINDS = {
     1: ("add_track", [("after", "place"), ("title", "title")]),
     2: ("move_track", [("track", "name"), ("after", "place")]),
-    3: ("add_clip", [("source", "digest"), ("track", "name"), ("at", "frame"), ("offset", "frame"), ("length", "length")]),
+    3: (
+        "add_clip",
+        [
+            ("source", "digest"),
+            ("track", "name"),
+            ("at", "frame"),
+            ("offset", "frame"),
+            ("length", "length"),
+        ],
+    ),
     4: ("move_clip", [("clip", "name"), ("track", "name"), ("at", "frame")]),
     5: ("trim_clip", [("clip", "name"), ("offset", "frame"), ("length", "length")]),
     6: ("set_gain", [("item", "name"), ("num", "short"), ("den", "divisor")]),
@@ -27,12 +40,12 @@ KINDS = {
     13: ("set_fade", [("clip", "name"), ("fade_in", "fade"), ("fade_out", "fade")]),
     14: ("set_marker_length", [("marker", "name"), ("span", "frame")]),
 }
-# the version of logs that a kind byte came with, where it is not the first
+# the version of logs that introduced a kind byte, if it is not the first
 CAME_WITH = {13: 2, 14: 3}
 
 
 def is_title(data):
-    """Whether these bytes are the text of a title, of whatever length a byte can tell."""
+    """Whether these bytes are the text of a title, of any length that a byte can hold."""
     try:
         text = data.decode()
     except UnicodeDecodeError:
@@ -56,12 +69,14 @@ class Reader:
 
     def stamp(self):
         data = self.take(32)
-        clock, replica, seq = (int.from_bytes(data[start:end], "big") for start, end in ((0, 8), (8, 24), (24, 32)))
+        clock, replica, seq = (
+            int.from_bytes(data[start:end], "big") for start, end in ((0, 8), (8, 24), (24, 32))
+        )
         refuse_unless(1 <= clock <= GREATEST and 1 <= seq <= GREATEST, BAD_FIELD)
         return clock, replica, seq
 
     def name(self):
-        """A stamp that is named, which is older than the operation's own."""
+        """The stamp of a named item, which is older than the operation's own."""
         named = self.stamp()
         refuse_unless(named[0] < self.own[0], BAD_FIELD)
         return named
@@ -113,7 +128,7 @@ class Reader:
         return tags
 
     def op(self, version):
-        """An operation, as a log of this version may have it."""
+        """An operation of a log of this version."""
         self.own = self.stamp()
         byte = self.number(1)
         refuse_unless(byte in KINDS and CAME_WITH.get(byte, 1) <= version, BAD_TAG)
@@ -122,7 +137,7 @@ class Reader:
 
 
 def read_op(data, at=0, version=NEWEST):
-    """The operation that begins there, and where it ends."""
+    """The operation that begins there, and its end."""
     reader = Reader(data, at)
     return reader.op(version), reader.at
 
@@ -132,7 +147,8 @@ def dot(op):
 
 
 def read_rising(data, at, count, bad_record, out_of_order, version=NEWEST):
-    """So many operations by rising dot, and where the last one ends. A record that is none and one that does not rise are refused by these numbers."""
+    """This number of operations by rising dot, and the end of the last one. The two numbers are the
+    errors for a record that is no operation and for one that does not rise."""
     ops = []
     for _ in range(count):
         try:
@@ -150,7 +166,9 @@ def read_log(data):
     refuse_unless(len(data) > 4 and 1 <= data[4] <= NEWEST, BAD_VERSION)
     refuse_unless(len(data) >= 45 and hashlib.sha256(data[:-32]).digest() == data[-32:], DAMAGED)
     body = data[:-32]
-    ops, at = read_rising(body, 13, int.from_bytes(body[5:13], "big"), BAD_RECORD, OUT_OF_ORDER, data[4])
+    ops, at = read_rising(
+        body, 13, int.from_bytes(body[5:13], "big"), BAD_RECORD, OUT_OF_ORDER, data[4]
+    )
     refuse_unless(at == len(body), TRAILING)
     refuse_unless(data[4] <= logs.version_of([op.text()[1] for op in ops]), VERSION_TOO_HIGH)
     return ops

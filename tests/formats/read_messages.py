@@ -1,5 +1,6 @@
-"""Messages read from bytes, what `radio have`, `lack` and `take` write, and what an end of a conversation comes to, by docs/formats/log.md, docs/use/exchange.md and
-docs/use/errors.md alone."""
+"""Messages read from bytes, the output of `radio have`, `lack` and `take`, and the outcome of a
+conversation, by docs/formats/log.md, docs/use/exchange.md and docs/use/errors.md alone.
+"""
 from formats.exchange import BYE, LONGEST, ops as ops_frames, summary
 from formats.read_logs import CONFLICT, GREATEST, dot, read_rising, same
 from formats.refused import Refused, refuse_unless
@@ -19,7 +20,7 @@ class Body:
         return int.from_bytes(self.data[self.at - count : self.at], "big")
 
     def have(self):
-        """Of each replica its run and its extras."""
+        """For each replica its run and its extras."""
         replicas = {}
         for _ in range(self.number(4)):
             replica = self.number(16)
@@ -41,7 +42,7 @@ class Body:
 
 
 def read_message(data):
-    """What a message is, and what it holds."""
+    """The kind and the content of a message."""
     body = Body(data)
     kind = {1: "have", 2: "ops", 3: "bye"}.get(body.number(1))
     refuse_unless(kind, BAD_MESSAGE)
@@ -51,7 +52,8 @@ def read_message(data):
 
 
 def front(stream):
-    """The body of the frame at the front and what follows it, or nothing where there is no whole frame yet."""
+    """The body of the first frame and the bytes after it, or None if there is no whole frame
+    yet."""
     if len(stream) < 4:
         return None
     length = int.from_bytes(stream[:4], "big")
@@ -73,7 +75,7 @@ def have_bytes(ops):
 
 
 def lack_bytes(ops, have):
-    """What `radio lack` writes: the bytes have to be one frame with a Have."""
+    """The output of `radio lack`: the bytes must be one frame with a Have."""
     frame = front(have)
     refuse_unless(frame is not None and frame[1] == b"", BAD_MESSAGE)
     kind, replicas = read_message(frame[0])
@@ -82,7 +84,7 @@ def lack_bytes(ops, have):
 
 
 def taken(ops, more):
-    """A set with these operations, taken one by one."""
+    """A set with these operations, applied one by one."""
     every = {dot(op): op for op in ops}
     for op in more:
         refuse_unless(same(every.setdefault(dot(op), op), op), CONFLICT)
@@ -90,7 +92,7 @@ def taken(ops, more):
 
 
 def take_ops(ops, stream):
-    """The set once the operations up to the Bye are taken."""
+    """The set after the operations up to the Bye are applied."""
     while True:
         frame = front(stream)
         refuse_unless(frame is not None, ENDED)
@@ -104,14 +106,15 @@ def take_ops(ops, stream):
 
 
 class End:
-    """An end of a conversation that has been told bytes: its set, what it has sent, whether it has ended, and what stopped it."""
+    """An end of a conversation that has received bytes: its set, the bytes that it has sent,
+    whether it has ended, and the error that stopped it."""
 
     def __init__(self, ops, calls):
         self.ops, self.calls, self.replicas, self.ended, self.number = ops, calls, None, False, None
         self.sent = have_bytes(ops) if calls else b""
 
     def message(self, kind, held):
-        """One message that came."""
+        """One received message."""
         refuse_unless((kind == "have") == (self.replicas is None), OUT_OF_TURN)
         if kind == "have":
             self.replicas = held
@@ -125,7 +128,8 @@ class End:
                 self.sent += lacking(self.ops, self.replicas) + BYE
 
     def hear(self, stream):
-        """All that the other end ever sends. Bytes behind its Bye are not looked at here: whether they are met hangs on how they are cut."""
+        """All bytes that the peer ever sends. Bytes after its Bye are ignored here: whether they
+        are read depends on the pieces."""
         try:
             while not self.ended:
                 frame = front(stream)

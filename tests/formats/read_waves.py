@@ -1,4 +1,6 @@
-"""Wave files read from bytes, the number of their refusal, and the text of `radio info`, by docs/formats/wave.md and docs/use/output.md alone and not by the program under test."""
+"""Wave files read from bytes, their error numbers, and the text of `radio info`, by
+docs/formats/wave.md and docs/use/output.md alone and not by the program under test.
+"""
 import struct
 
 from formats.refused import refuse_unless
@@ -6,11 +8,18 @@ from formats.waves import PCM, info
 
 NOT_RIFF, NOT_WAVE, TRUNCATED, NO_FMT, BAD_FMT, UNSUPPORTED, NO_DATA = 26, 27, 28, 29, 30, 31, 32
 # by name: offset and length
-TEXTS = {"description": (0, 256), "originator": (256, 32), "reference": (288, 32), "date": (320, 10), "time": (330, 8)}
+TEXTS = {
+    "description": (0, 256),
+    "originator": (256, 32),
+    "reference": (288, 32),
+    "date": (320, 10),
+    "time": (330, 8),
+}
 
 
 def chunks_of(data, at, end):
-    """The chunks from here to there, each its name and its content, and whether the last one is longer than the bytes left."""
+    """The chunks in this range, each its name and its content, and whether the last one is longer
+    than the remaining bytes."""
     chunks = []
     while end - at >= 8:
         size = int.from_bytes(data[at + 4 : at + 8], "little")
@@ -26,7 +35,7 @@ def up_to_zero(data):
 
 
 class Wave:
-    """What a wave file says."""
+    """The content of a wave file."""
 
     def __init__(self, file):
         refuse_unless(len(file) >= 8 and file[:4] == b"RIFF", NOT_RIFF)
@@ -46,13 +55,17 @@ class Wave:
     def read_format(self, content):
         refuse_unless(content is not None, NO_FMT)
         refuse_unless(len(content) >= 16, BAD_FMT)
-        tag, self.channels, self.rate, _, self.align, self.bits = struct.unpack("<HHIIHH", content[:16])
+        tag, self.channels, self.rate, _, self.align, self.bits = struct.unpack(
+            "<HHIIHH", content[:16]
+        )
         refuse_unless(tag in (1, 0xFFFE), UNSUPPORTED)
         if tag == 0xFFFE:
             refuse_unless(len(content) >= 40, BAD_FMT)
             refuse_unless(content[24:40] == PCM, UNSUPPORTED)
         refuse_unless(self.bits in (8, 16, 24, 32), UNSUPPORTED)
-        refuse_unless(self.channels and self.rate and self.align == self.channels * self.bits // 8, BAD_FMT)
+        refuse_unless(
+            self.channels and self.rate and self.align == self.channels * self.bits // 8, BAD_FMT
+        )
 
     def sample(self, frame, channel):
         """At 32-bit scale."""
@@ -64,16 +77,23 @@ class Wave:
         return int.from_bytes(data, "little", signed=True) << (32 - self.bits)
 
     def extension(self):
-        """The lines on the broadcast extension."""
+        """The lines about the broadcast extension."""
         content = self.first(b"bext")
         if content is None or len(content) < 602:
             return ["bext none"]
         lines = ["bext %d" % int.from_bytes(content[346:348], "little")]
-        lines += ["%s %s" % (name, escaped(up_to_zero(content[at : at + length]))) for name, (at, length) in TEXTS.items()]
-        return lines + ["time-reference %d" % int.from_bytes(content[338:346], "little"), "history " + escaped(up_to_zero(content[602:]))]
+        lines += [
+            "%s %s" % (name, escaped(up_to_zero(content[at : at + length])))
+            for name, (at, length) in TEXTS.items()
+        ]
+        return lines + [
+            "time-reference %d" % int.from_bytes(content[338:346], "little"),
+            "history " + escaped(up_to_zero(content[602:])),
+        ]
 
     def first_by_name(self, wanted, least, value):
-        """By name of a cue what the first chunk of this kind in the lists says of it, of those that have so many bytes."""
+        """By cue point: the value from the first chunk of this kind in the lists that has enough
+        bytes."""
         found = {}
         for name, content in self.chunks:
             if name == b"LIST" and content[:4] == b"adtl":
@@ -83,17 +103,42 @@ class Wave:
         return found
 
     def cues(self):
-        """The lines on the cues."""
+        """The lines about the cue points."""
         content = self.first(b"cue ") or b""
-        labels = self.first_by_name(b"labl", 4, lambda said: " label " + escaped(up_to_zero(said[4:])))
-        lengths = self.first_by_name(b"ltxt", 20, lambda said: " len %d" % int.from_bytes(said[4:8], "little"))
-        count = min(int.from_bytes(content[:4], "little"), (len(content) - 4) // 24) if len(content) >= 4 else 0
-        points = [struct.unpack("<II4sIII", content[at : at + 24]) for at in range(4, 4 + 24 * count, 24)]
-        return ["cue %d at %d" % (point[0], point[5]) + lengths.get(point[0], "") + labels.get(point[0], "") for point in points]
+        labels = self.first_by_name(
+            b"labl", 4, lambda said: " label " + escaped(up_to_zero(said[4:]))
+        )
+        lengths = self.first_by_name(
+            b"ltxt", 20, lambda said: " len %d" % int.from_bytes(said[4:8], "little")
+        )
+        count = (
+            min(int.from_bytes(content[:4], "little"), (len(content) - 4) // 24)
+            if len(content) >= 4
+            else 0
+        )
+        points = [
+            struct.unpack("<II4sIII", content[at : at + 24]) for at in range(4, 4 + 24 * count, 24)
+        ]
+        return [
+            "cue %d at %d" % (point[0], point[5])
+            + lengths.get(point[0], "")
+            + labels.get(point[0], "")
+            for point in points
+        ]
 
     def info(self):
-        return info(self.file, self.rate, self.channels, self.bits, self.frames, self.extension(), self.cues())
+        return info(
+            self.file,
+            self.rate,
+            self.channels,
+            self.bits,
+            self.frames,
+            self.extension(),
+            self.cues(),
+        )
 
 
 def escaped(data):
-    return "".join(chr(byte) if 0x20 <= byte <= 0x7E and byte != 0x5C else "\\x%02x" % byte for byte in data)
+    return "".join(
+        chr(byte) if 0x20 <= byte <= 0x7E and byte != 0x5C else "\\x%02x" % byte for byte in data
+    )

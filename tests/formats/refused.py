@@ -1,4 +1,4 @@
-"""The refusal of a reading: its number is that of docs/use/errors.md."""
+"""The error of a reading; its number is that of docs/use/errors.md."""
 
 
 class Refused(Exception):

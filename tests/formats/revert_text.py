@@ -1,11 +1,14 @@
-"""The script of `radio revert`, by docs/use/scripts.md and docs/formats/log.md alone and not by the program under test: of each field the writes of ready operations
-stand on a stack by rising stamp, from which those that are taken back are lifted, the newest first."""
+"""The script of `radio revert`, by docs/use/scripts.md and docs/formats/log.md alone and not by the
+program under test: the writes of a field by ready operations are a stack, sorted by stamps, from
+which the reverted ones are removed, the newest first.
+"""
 from formats.logs import stamp_text
 from formats.refused import Refused
 from formats.sessions import ADDS, live_tags, ready_of
 
 NO_SUCH_ITEM = 21
-# by kind: the word of the line that writes the field, the field, and which field of the operation names the item
+# by kind: the word of the line that writes the field, the field, and the field of the operation
+# that names the item
 WRITERS = {
     "move_track": ("move-track", "track place", "track"),
     "move_clip": ("move-clip", "clip place", "clip"),
@@ -20,10 +23,18 @@ WRITERS = {
 
 
 def values(op):
-    """What an operation writes: a value for each field."""
+    """The values that an operation writes, by field."""
     return {
-        "add_track": lambda: {"track place": op.after, "title": op.title, "gain": (1, 1), "mute": 0},
-        "add_clip": lambda: {"clip place": (op.track, op.at), "trim": (op.offset, op.length), "gain": (1, 1), "mute": 0, "fades": (0, 0)},
+        "add_track": lambda: {
+            "track place": op.after, "title": op.title, "gain": (1, 1), "mute": 0
+        },
+        "add_clip": lambda: {
+            "clip place": (op.track, op.at),
+            "trim": (op.offset, op.length),
+            "gain": (1, 1),
+            "mute": 0,
+            "fades": (0, 0),
+        },
         "add_marker": lambda: {"position": op.at, "title": op.title, "length": 0},
         "move_track": lambda: {"track place": op.after},
         "move_clip": lambda: {"clip place": (op.track, op.at)},
@@ -39,11 +50,15 @@ def values(op):
 
 def item_of(op):
     """The item that an operation adds or names."""
-    return op.own if op.kind in ADDS else op.fields[WRITERS[op.kind][2] if op.kind in WRITERS else "item"]
+    return (
+        op.own
+        if op.kind in ADDS
+        else op.fields[WRITERS[op.kind][2] if op.kind in WRITERS else "item"]
+    )
 
 
 class Session:
-    """What stands while the lines are read, from the newest operation on."""
+    """The state while the lines are read, from the newest operation on."""
 
     def __init__(self, ops):
         self.ready = sorted(ready_of(ops), key=lambda op: op.own)
@@ -64,19 +79,37 @@ class Session:
             return [stamp_text(*value[0]), str(value[1])], value[0]
         if field in ("trim", "fades"):
             return [str(part) for part in value], None
-        return [{"gain": lambda: "%d/%d" % value, "mute": lambda: "on" if value else "off"}.get(field, lambda: str(value))()], None
+        return (
+            [
+                {"gain": lambda: "%d/%d" % value, "mute": lambda: "on" if value else "off"}.get(
+                    field, lambda: str(value)
+                )()
+            ],
+            None,
+        )
 
     def changed_presence(self, op):
         item = item_of(op)
-        was, there = bool(live_tags([other for other in self.ready if other.own < op.own], item)), self.is_there(item)
+        was, there = (
+            bool(live_tags([other for other in self.ready if other.own < op.own], item)),
+            self.is_there(item),
+        )
         self.presence[item] = was
         line = "%s %s" % ("restore" if was else "remove", stamp_text(*item))
-        return line if was != there else "# %s: it is %s already" % (line, "present" if was else "absent")
+        return (
+            line
+            if was != there
+            else "# %s: it is %s already" % (line, "present" if was else "absent")
+        )
 
     def wrote(self, op):
         word, field, _ = WRITERS[op.kind]
         item = item_of(op)
-        stack = [(other.own, values(other)[field]) for other in self.ready if item_of(other) == item and field in values(other) and other.own not in self.lifted]
+        stack = [
+            (other.own, values(other)[field])
+            for other in self.ready
+            if item_of(other) == item and field in values(other) and other.own not in self.lifted
+        ]
         top, below = stack[-1][0], [value for own, value in stack if own < op.own][-1]
         words, other = self.words(field, below)
         line = " ".join([word, stamp_text(*item)] + words)
@@ -94,7 +127,7 @@ class Session:
 
 
 def revert_text(ops, stamps):
-    """Of operations as values: the lines that take those of these stamps back."""
+    """The lines that revert the operations with these stamps."""
     named = {op.own: op for op in ops}
     for stamp in stamps:
         if stamp not in named:

@@ -1,5 +1,7 @@
-"""What `radio edit` makes of a log by a script, or the number of its refusal, by docs/formats and docs/use alone: the forms of the lines, and
-the operation that an editor makes of the set with those before it."""
+"""The log that `radio edit` makes of a log and a script, or its error number, by docs/formats and
+docs/use alone: the forms of the lines, and the operation that an editor makes after those before
+it.
+"""
 import re
 
 from formats.read_logs import GREATEST, LONGEST_FADE, is_title
@@ -9,11 +11,20 @@ from formats.sessions import NAMED, Op, live_tags, place_of, ready_of
 BAD_TEXT, BAD_LINE, NOT_MADE = 4, 41, 42
 MOST_TAGS = 65535
 UUID = re.compile(rb"[0-9a-f]{8}-[0-9a-f]{4}-[0-9a-f]{4}-[0-9a-f]{4}-[0-9a-f]{12}")
-# how the fields of each form are told, in the order of the line
+# how the fields of each form are written, in the order of the line
 FORMS = {
     b"add-track": ("add_track", [("after", "after"), ("title", "title")]),
     b"move-track": ("move_track", [("track", "item"), ("after", "after")]),
-    b"add-clip": ("add_clip", [("source", "digest"), ("track", "item"), ("at", "frame"), ("offset", "frame"), ("length", "frame")]),
+    b"add-clip": (
+        "add_clip",
+        [
+            ("source", "digest"),
+            ("track", "item"),
+            ("at", "frame"),
+            ("offset", "frame"),
+            ("length", "frame"),
+        ],
+    ),
     b"move-clip": ("move_clip", [("clip", "item"), ("track", "item"), ("at", "frame")]),
     b"trim-clip": ("trim_clip", [("clip", "item"), ("offset", "frame"), ("length", "frame")]),
     b"gain": ("set_gain", [("item", "item"), ("gain", "gain")]),
@@ -29,7 +40,8 @@ FORMS = {
 
 
 def read_replica(word):
-    """A replica in any spelling of a UUID: with hyphens or without, in braces or behind `urn:uuid:`, in either case."""
+    """A replica in any spelling of a UUID: with or without hyphens, in braces or after `urn:uuid:`,
+    in upper or lower case."""
     plain = word.lower()
     for whole in (r"\{(.*)\}", r"urn:uuid:(.*)"):
         inside = re.fullmatch(whole, plain)
@@ -52,20 +64,24 @@ def read_stamp(word):
 
 
 class Line:
-    """The words of a line, one after another, where `made` has the items that lines before it made."""
+    """The words of a line, one after another, where `made` has the items that earlier lines
+    made."""
 
     def __init__(self, line, made):
         self.rest, self.made = line, made
 
     def word(self):
-        """The next word, which one space ends, or the end of the line; none follows the last."""
+        """The next word, which ends at a space or at the end of the line; nothing may follow the
+        last one."""
         refuse_unless(self.rest is not None, BAD_LINE)
         word, space, rest = self.rest.partition(b" ")
         self.rest = rest if space else None
         return word
 
     def title(self):
-        refuse_unless(self.rest is not None and len(self.rest) <= 255 and is_title(self.rest), BAD_LINE)
+        refuse_unless(
+            self.rest is not None and len(self.rest) <= 255 and is_title(self.rest), BAD_LINE
+        )
         title, self.rest = self.rest.decode(), None
         return title
 
@@ -109,7 +125,7 @@ class Line:
         return int(word == b"on")
 
     def change(self):
-        """The kind of the change that the line asks for, and its fields."""
+        """The kind of the change in the line, and its fields."""
         word = self.word()
         refuse_unless(word in FORMS, BAD_LINE)
         kind, forms = FORMS[word]
@@ -124,12 +140,21 @@ def items_named(kind, fields):
     """The items that a change names, each with its role."""
     if kind == "move_clip":
         return [(fields["clip"], "Clip"), (fields["track"], "Track")]
-    named = [(next(fields[key] for key in ("item", "track", "clip", "marker") if key in fields), NAMED[kind])] if kind in NAMED else []
+    named = (
+        [
+            (
+                next(fields[key] for key in ("item", "track", "clip", "marker") if key in fields),
+                NAMED[kind],
+            )
+        ]
+        if kind in NAMED
+        else []
+    )
     return named + ([(fields["after"], "Track")] if fields.get("after") is not None else [])
 
 
 def made_op(ops, replica, kind, fields):
-    """The operation that an editor of this name makes of a set."""
+    """The operation that an editor with this name makes of a set."""
     refuse_unless(fields.get("length") != 0, NOT_MADE)
     ready = ready_of(ops)
     fits = {op.own: op.fits for op in ready}
@@ -148,7 +173,7 @@ def made_op(ops, replica, kind, fields):
 
 
 def run(ops, replica, script):
-    """The operations that a script makes, each of the set with those before it."""
+    """The operations that a script makes, each after those before it."""
     lines = script.split(b"\n")
     made, items = [], {}
     for number, line in enumerate(lines[:-1] if lines[-1] == b"" else lines, 1):

@@ -1,5 +1,7 @@
-"""Operations as values, which of them are ready, and the session of a set, by docs/formats/log.md alone and in the plainest way: what is ready by a
-fixed point, a field's value by a maximum, the order of tracks by sorting whole paths."""
+"""Operations as values, the ready ones among them, and the session of a set, by docs/formats/log.md
+alone and in the plainest way: readiness by a fixed point, a field's value by a maximum, the order
+of tracks by sorting whole paths.
+"""
 from collections import namedtuple
 
 from formats import logs
@@ -16,8 +18,19 @@ FITS = {
 }
 # by kind: the role of the item that an operation names first, under `item` or the role's own name
 NAMED = {
-    "move_track": "Track", "add_clip": "Track", "move_clip": "Clip", "trim_clip": "Clip", "set_gain": "Mixable", "set_mute": "Mixable",
-    "remove": "Item", "restore": "Item", "move_marker": "Marker", "retitle": "Titled", "set_fade": "Clip", "set_marker_length": "Marker"}
+    "move_track": "Track",
+    "add_clip": "Track",
+    "move_clip": "Clip",
+    "trim_clip": "Clip",
+    "set_gain": "Mixable",
+    "set_mute": "Mixable",
+    "remove": "Item",
+    "restore": "Item",
+    "move_marker": "Marker",
+    "retitle": "Titled",
+    "set_fade": "Clip",
+    "set_marker_length": "Marker",
+}
 
 Track = namedtuple("Track", "own title gain mute clips")
 Clip = namedtuple("Clip", "own place at offset length source gain mute fades")
@@ -26,7 +39,8 @@ Session = namedtuple("Session", "tracks markers held")
 
 
 class Op:
-    """An operation: its stamp, what it does, and the fields of its body by name, in the order of the format."""
+    """An operation: its stamp, its kind, and the fields of its body by name, in the order of the
+    format."""
 
     def __init__(self, own, kind, **fields):
         self.own, self.kind, self.fields = own, kind, fields
@@ -57,40 +71,59 @@ class Op:
         }[self.kind]()
 
     def fits(self, role):
-        """A role is a name, or the item that the operation has to be a tag of."""
+        """A role is a name, or the item of which the operation must be a tag."""
         if isinstance(role, str):
             return self.kind in FITS[role]
-        return self.own == role if self.kind in ADDS else self.kind == "restore" and self.item == role
+        return (
+            self.own == role if self.kind in ADDS else self.kind == "restore" and self.item == role
+        )
 
 
 def ready_of(ops):
     ready = {}
     while True:
-        more = {op.own: op for op in ops if op.own not in ready and all(name in ready and ready[name].fits(role) for name, role in op.needs())}
+        more = {
+            op.own: op
+            for op in ops
+            if (
+                op.own not in ready
+                and all(name in ready and ready[name].fits(role) for name, role in op.needs())
+            )
+        }
         if not more:
             return list(ready.values())
         ready.update(more)
 
 
 def live_tags(ready, item):
-    """The tags of an item that none of its Removes lists, rising."""
+    """The live tags of an item, which no Remove lists, in rising order."""
     tags = {op.own for op in ready if op.fits(item)}
-    return sorted(tags - {tag for op in ready if op.kind == "remove" and op.item == item for tag in op.tags})
+    return sorted(
+        tags - {tag for op in ready if op.kind == "remove" and op.item == item for tag in op.tags}
+    )
 
 
 def last_write(ready, item, field, writers):
-    """What the writer with the greatest stamp gave a field, and that stamp. `writers` says by kind which field names the item."""
-    writes = [(op.own, field(op)) for op in ready if op.kind in writers and (op.own if op.kind in ADDS else op.fields[writers[op.kind]]) == item]
+    """The latest value of a field, and its stamp. `writers` has for each kind the field that names
+    the item."""
+    writes = [
+        (op.own, field(op))
+        for op in ready
+        if (
+            op.kind in writers
+            and (op.own if op.kind in ADDS else op.fields[writers[op.kind]]) == item
+        )
+    ]
     return max(writes, key=lambda write: write[0])
 
 
 def place_of(ready, track):
-    """The place that a track was given last."""
+    """The latest place of a track."""
     return last_write(ready, track, lambda op: None, {"add_track": "", "move_track": "track"})[0]
 
 
 def path_in(ready):
-    """Of a place what the places in the tree are sorted by."""
+    """The key by which the places in the tree are sorted."""
     after = {op.own: op.after for op in ready if op.kind in FITS["Place"]}
 
     def path(place):
@@ -104,31 +137,87 @@ def path_in(ready):
 
 
 def session_of(ops, ready=None):
-    """The session of these operations; whoever knows which of them are ready may say so."""
+    """The session of these operations; the ready ones may be given."""
     ready = ready_of(ops) if ready is None else ready
 
     def title(item):
-        return last_write(ready, item, lambda op: op.title, {"add_track": "", "add_marker": "", "retitle": "item"})[1]
+        return last_write(
+            ready, item, lambda op: op.title, {"add_track": "", "add_marker": "", "retitle": "item"}
+        )[1]
 
     def sound(item):
         added = {"add_track": "", "add_clip": ""}
-        gain = last_write(ready, item, lambda op: (op.num, op.den) if op.kind == "set_gain" else (1, 1), {**added, "set_gain": "item"})[1]
-        return gain, bool(last_write(ready, item, lambda op: op.flag if op.kind == "set_mute" else 0, {**added, "set_mute": "item"})[1])
+        gain = last_write(
+            ready,
+            item,
+            lambda op: (op.num, op.den) if op.kind == "set_gain" else (1, 1),
+            {**added, "set_gain": "item"},
+        )[1]
+        return (
+            gain,
+            bool(
+                last_write(
+                    ready,
+                    item,
+                    lambda op: op.flag if op.kind == "set_mute" else 0,
+                    {**added, "set_mute": "item"},
+                )[1]
+            ),
+        )
 
-    present = {kind: [op for op in ready if op.kind == kind and live_tags(ready, op.own)] for kind in ADDS}
+    present = {
+        kind: [op for op in ready if op.kind == kind and live_tags(ready, op.own)] for kind in ADDS
+    }
     clips = []
     for op in present["add_clip"]:
-        place, (track, at) = last_write(ready, op.own, lambda op: (op.track, op.at), {"add_clip": "", "move_clip": "clip"})
-        offset, length = last_write(ready, op.own, lambda op: (op.offset, op.length), {"add_clip": "", "trim_clip": "clip"})[1]
-        fades = last_write(ready, op.own, lambda op: (op.fade_in, op.fade_out) if op.kind == "set_fade" else (0, 0), {"add_clip": "", "set_fade": "clip"})[1]
-        clips.append((track, at, place, Clip(op.own, place, at, offset, length, op.source, *sound(op.own), fades)))
+        place, (track, at) = last_write(
+            ready, op.own, lambda op: (op.track, op.at), {"add_clip": "", "move_clip": "clip"}
+        )
+        offset, length = last_write(
+            ready, op.own, lambda op: (op.offset, op.length), {"add_clip": "", "trim_clip": "clip"}
+        )[1]
+        fades = last_write(
+            ready,
+            op.own,
+            lambda op: (op.fade_in, op.fade_out) if op.kind == "set_fade" else (0, 0),
+            {"add_clip": "", "set_fade": "clip"},
+        )[1]
+        clips.append(
+            (
+                track,
+                at,
+                place,
+                Clip(op.own, place, at, offset, length, op.source, *sound(op.own), fades),
+            )
+        )
     clips.sort(key=lambda clip: clip[:3])
     path = path_in(ready)
-    rising = sorted((op.own for op in present["add_track"]), key=lambda own: path(place_of(ready, own)))
-    tracks = [Track(own, title(own), *sound(own), [clip for track, _, _, clip in clips if track == own]) for own in rising]
-    at = {op.own: last_write(ready, op.own, lambda op: op.at, {"add_marker": "", "move_marker": "marker"})[1] for op in present["add_marker"]}
-    span = {own: last_write(ready, own, lambda op: op.span if op.kind == "set_marker_length" else 0, {"add_marker": "", "set_marker_length": "marker"})[1] for own in at}
-    markers = [Marker(own, at[own], title(own), span[own]) for own in sorted(at, key=lambda own: (at[own], own))]
+    rising = sorted(
+        (op.own for op in present["add_track"]), key=lambda own: path(place_of(ready, own))
+    )
+    tracks = [
+        Track(own, title(own), *sound(own), [clip for track, _, _, clip in clips if track == own])
+        for own in rising
+    ]
+    at = {
+        op.own: last_write(
+            ready, op.own, lambda op: op.at, {"add_marker": "", "move_marker": "marker"}
+        )[1]
+        for op in present["add_marker"]
+    }
+    span = {
+        own: last_write(
+            ready,
+            own,
+            lambda op: op.span if op.kind == "set_marker_length" else 0,
+            {"add_marker": "", "set_marker_length": "marker"},
+        )[1]
+        for own in at
+    }
+    markers = [
+        Marker(own, at[own], title(own), span[own])
+        for own in sorted(at, key=lambda own: (at[own], own))
+    ]
     return Session(tracks, markers, len(ops) - len(ready))
 
 

@@ -7,7 +7,7 @@ from formats.refused import Refused
 
 
 def recording(data):
-    """What a file is: a wave file, or the number of its refusal."""
+    """A recording: a wave file, or its error number."""
     try:
         return Wave(data)
     except Refused as refused:
@@ -16,12 +16,21 @@ def recording(data):
 
 def source_line(digest, clips, heard, found):
     end = max(clip.offset + clip.length for clip in clips)
-    known = "missing" if found is None else "rate %d channels %d frames %d file %s" % (found[1].rate, found[1].channels, found[1].frames, found[0])
-    return "source %s clips %d audible %d end %d %s\n" % (digest.hex(), len(clips), heard, end, known)
+    known = (
+        "missing"
+        if found is None
+        else "rate %d channels %d frames %d file %s" % (
+            found[1].rate, found[1].channels, found[1].frames, found[0]
+        )
+    )
+    return (
+        "source %s clips %d audible %d end %d %s\n" % (digest.hex(), len(clips), heard, end, known)
+    )
 
 
 def sources_text(session, files, flags=()):
-    """Of a session, and of files by name, in their order. `flags` may have one of `--missing` and `--files`."""
+    """The text for a session and for files by name, in their order. `flags` may have `--missing` or
+    `--files`."""
     clips = [clip for track in session.tracks for clip in track.clips]
     heard = [clip.source for _, some in audible(session) for clip in some]
     first, others = {}, ""
@@ -39,5 +48,13 @@ def sources_text(session, files, flags=()):
         return "".join(digest.hex() + "\n" for digest in missing)
     if "--files" in flags:
         return "".join(first[digest][0] + "\n" for digest in named if digest in first)
-    lines = [source_line(digest, [clip for clip in clips if clip.source == digest], heard.count(digest), first.get(digest)) for digest in named]
+    lines = [
+        source_line(
+            digest,
+            [clip for clip in clips if clip.source == digest],
+            heard.count(digest),
+            first.get(digest),
+        )
+        for digest in named
+    ]
     return "".join(lines) + others + "missing %d\n" % len(missing)

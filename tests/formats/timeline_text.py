@@ -1,11 +1,15 @@
-"""The text of `radio timeline`, by docs/use/output.md alone and not by the program under test: column by column, and of each every clip and marker."""
+"""The text of `radio timeline`, by docs/use/output.md alone and not by the program under test:
+column by column, with every clip and marker of each.
+"""
 
 SHOWN = 20
 
 
 def columns_of(session, width):
-    """The span of a session, and how many frames a column has."""
-    ends = [clip.at + clip.length for track in session.tracks for clip in track.clips] + [marker.at + (marker.span or 1) for marker in session.markers]
+    """The span of a session, and the number of frames per column."""
+    ends = [clip.at + clip.length for track in session.tracks for clip in track.clips] + [
+        marker.at + (marker.span or 1) for marker in session.markers
+    ]
     span = max(ends, default=0)
     return span, max(1, -(-span // width))
 
@@ -39,7 +43,12 @@ def track_mark(track, frames):
 
 def time_text(frames, rate):
     milliseconds = frames * 1000 // rate
-    return "%d:%02d:%02d.%03d" % (milliseconds // 3600000, milliseconds // 60000 % 60, milliseconds // 1000 % 60, milliseconds % 1000)
+    return "%d:%02d:%02d.%03d" % (
+        milliseconds // 3600000,
+        milliseconds // 60000 % 60,
+        milliseconds // 1000 % 60,
+        milliseconds % 1000,
+    )
 
 
 def sound_text(track):
@@ -53,7 +62,12 @@ def timeline_text(session, width=60, rate=48000, times_alone=False):
     labels = ["markers"] + [track.title[:SHOWN] for track in session.tracks]
     wide = max(map(len, labels))
     rows = ["".join(marker_mark(session.markers, frames) for frames in columns)]
-    rows += ["".join(track_mark(track, frames) for frames in columns) + sound_text(track) for track in session.tracks]
+    rows += [
+        "".join(track_mark(track, frames) for frames in columns) + sound_text(track)
+        for track in session.tracks
+    ]
     text = "".join("%s %s\n" % (label.ljust(wide), row) for label, row in zip(labels, rows))
-    span, size = (("" if times_alone else "%d " % frames) + time_text(frames, rate) for frames in (span, size))
+    span, size = (
+        ("" if times_alone else "%d " % frames) + time_text(frames, rate) for frames in (span, size)
+    )
     return text + "span %s column %s\n" % (span, size)

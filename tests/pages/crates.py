@@ -1,11 +1,12 @@
-"""The crates by rooms, the laws, and the checks of the gate, from crates.txt, the code and tests/all.sh."""
+"""The crates by rooms, the laws, and the checks of the gate, from crates.txt, the code and
+tests/all.sh."""
 import ast
 import re
 import sys
 
 from pages.text import files_of, fill, table, text_of
 
-# the rooms of the repository, from the lowest to the highest: each crate with what it does
+# the rooms of the repository, from the lowest to the highest: each crate with its purpose
 ROOMS = {
     "base": {
         "base_sha256": "SHA-256: of one message, of a stream, of eight messages at a time",
@@ -70,13 +71,20 @@ ROOMS = {
         "test_session": "tests of sessions",
         "test_editor": "tests of editors, worlds and conversations",
         "test_output": "tests of mixes, scripts and rendered files",
-        "test_cli": "tests of the commands and of the texts that they print; public calls with their arguments",
+        "test_cli": (
+            "tests of the commands and of the texts that they print; public calls with their "
+            "arguments"
+        ),
     },
 }
 
 
 def crates_txt():
-    lines = [line.split(":") for line in text_of("crates.txt").splitlines() if line and not line.startswith("#")]
+    lines = [
+        line.split(":")
+        for line in text_of("crates.txt").splitlines()
+        if line and not line.startswith("#")
+    ]
     return {name.strip(): uses.split() for name, uses in lines}
 
 
@@ -88,12 +96,17 @@ def all_below(name, uses):
 
 
 def crates(*room):
-    """The crates of a room with those directly below: what another one of them does not have below it."""
+    """The crates of a room with those directly below: crates that are not below another one of
+    these."""
     uses = {name: [one for one in own if one in crates_txt()] for name, own in crates_txt().items()}
     rows = []
     for name in uses:
         if name in ROOMS[" ".join(room)]:
-            direct = [one for one in uses[name] if not any(one in all_below(other, uses) for other in uses[name])]
+            direct = [
+                one
+                for one in uses[name]
+                if not any(one in all_below(other, uses) for other in uses[name])
+            ]
             rows.append(["`%s`" % name, ROOMS[" ".join(room)][name], ", ".join(direct)])
     return table(["Crate", "Does", "Depends on"], rows)
 
@@ -102,7 +115,9 @@ def laws_of_code():
     """The laws of each crate, with the first sentence of their doc comments."""
     found = {}
     for path in files_of("crates/*/src/laws.rt") + files_of("crates/*/src/laws/*.rt"):
-        for doc, name in re.findall(r"((?:^///.*\n)+)(?:^#\[.*\]\n)*^pub fn (\w+)", text_of(path), re.M):
+        for doc, name in re.findall(
+            r"((?:^///.*\n)+)(?:^#\[.*\]\n)*^pub fn (\w+)", text_of(path), re.M
+        ):
             text = " ".join(line[3:].strip() for line in doc.splitlines())
             found.setdefault(path.split("/")[1], {})[name] = re.split(r"(?<=\.) (?=[A-Z])", text)[0]
     return found
@@ -111,12 +126,16 @@ def laws_of_code():
 def laws():
     lines = []
     for crate, own in laws_of_code().items():
-        lines += ["**%s**" % crate, ""] + [fill("`%s`: %s" % (name, text), "- ") for name, text in own.items()] + [""]
+        lines += (
+            ["**%s**" % crate, ""]
+            + [fill("`%s`: %s" % (name, text), "- ") for name, text in own.items()]
+            + [""]
+        )
     return "\n".join(lines).strip()
 
 
 def first_line(path):
-    """What a check says that it does, up to how it is called, and whether it says how it is called."""
+    """What a check does, up to its usage, and whether its usage is given."""
     text = text_of(path)
     if path.endswith(".py"):
         text = (ast.get_docstring(ast.parse(text)) or "").split("\n\n")[0]
@@ -135,6 +154,17 @@ def row(path):
 
 def checks():
     run = re.findall(r"(?:sh|python3) (tests/[\w/.]+)", text_of("tests/all.sh"))
-    rest = [path for path in files_of("tests/checks/*") if path not in run and path.endswith((".py", ".sh")) and first_line(path)[1]]
-    lines = [fill("`rt ci`: each proof from nothing, the tests, the must-fail edits and the stored run", "- ")]
-    return "\n".join(lines + [row(path) for path in run] + ["", "By hand:", ""] + [row(path) for path in rest])
+    rest = [
+        path
+        for path in files_of("tests/checks/*")
+        if path not in run and path.endswith((".py", ".sh")) and first_line(path)[1]
+    ]
+    lines = [
+        fill(
+            "`rt ci`: each proof from nothing, the tests, the must-fail edits and the stored run",
+            "- ",
+        )
+    ]
+    return "\n".join(
+        lines + [row(path) for path in run] + ["", "By hand:", ""] + [row(path) for path in rest]
+    )

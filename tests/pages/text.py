@@ -1,4 +1,4 @@
-"""Files of the repository as text, and text as the pages have it."""
+"""Files of the repository as text, and text in the form that the pages have."""
 import glob
 import os
 import re
@@ -15,12 +15,22 @@ def text_of(*names):
 
 
 def files_of(pattern):
-    return sorted(os.path.relpath(path, TOP) for path in glob.glob(os.path.join(TOP, pattern), recursive=True))
+    return sorted(
+        os.path.relpath(path, TOP) for path in glob.glob(os.path.join(TOP, pattern), recursive=True)
+    )
 
 
 def fill(text, first="", rest="  "):
-    """The text in lines of at most WIDTH characters, none of them broken inside a word or at a hyphen."""
-    return textwrap.fill(text, WIDTH, initial_indent=first, subsequent_indent=rest, break_long_words=False, break_on_hyphens=False)
+    """The text in lines of at most WIDTH characters, broken neither inside a word nor at a
+    hyphen."""
+    return textwrap.fill(
+        text,
+        WIDTH,
+        initial_indent=first,
+        subsequent_indent=rest,
+        break_long_words=False,
+        break_on_hyphens=False,
+    )
 
 
 def table(heads, rows):

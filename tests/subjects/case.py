@@ -1,5 +1,6 @@
-"""How a case is made, and what several subjects share. A case has the words after the program's name,
-the files that lie where it runs, its input, and the output, the errors and the status that are wanted."""
+"""How a case is made, and what several subjects share. A case has the words after the program's
+name, the files that lie where it runs, its input, and the output, the errors and the status that
+are wanted."""
 from formats.case_text import Case, os_bytes
 from formats.log_text import log_text
 from formats.logs import A, B, C, add_marker, head, log, marker_line, retitle, seal
@@ -7,20 +8,38 @@ from formats.waves import info
 
 # the cases by command, each in the order in which the subjects make them
 MADE = {}
-COMMANDS = ("view", "log", "timeline", "merge", "pull", "edit", "revert", "sources", "find", "diff", "check", "render", "have", "lack", "take", "serve", "meet", "info", "lay", "explain", "completions", "man")
+COMMANDS = (
+    "view", "log", "timeline", "merge", "pull", "edit", "revert", "sources", "find", "diff",
+    "check", "render", "have", "lack", "take", "serve", "meet", "info", "lay", "explain",
+    "completions", "man",
+)
 NEWS = add_marker((1, A, 1), 480, "News")
 LATE = retitle((2, B, 1), (1, A, 1), "Late")
 ONE = log([NEWS])
-# two markers by name, what NEWS shows where nothing changes it, and a second marker with what it shows
+# two markers by name, what NEWS shows where nothing changes it, and a second marker with what it
+# shows
 M, N = (1, A, 1), (2, C, 1)
 SHOWN = marker_line(M, 480, "News")
 TALK = add_marker(N, 960, "Talk")
 TALKED = marker_line(N, 960, "Talk")
 
 
-def case(name, words, files=None, stdin=b"", stdout="", status=0, stderr=None, output=None, setup=None, made=None, needs=None):
-    """`made`: the files that it makes or writes anew, with their bytes. `needs`: `permissions`, where files that may not be read or
-    written have to be refused. The words that call no command, and the help, are cases of `radio`."""
+def case(
+    name,
+    words,
+    files=None,
+    stdin=b"",
+    stdout="",
+    status=0,
+    stderr=None,
+    output=None,
+    setup=None,
+    made=None,
+    needs=None,
+):
+    """`made`: the files that it makes or writes anew, with their bytes. `needs`: `permissions`,
+    where files that may not be read or written have to be refused. The words that call no command,
+    and the help, are cases of `radio`."""
     command = words[0] if words and words[0] in COMMANDS and "--help" not in words else "radio"
     one = Case(command, name.removeprefix(command + "_"))
     assert one.name not in MADE.setdefault(command, {}), one.title
@@ -47,8 +66,8 @@ def both(name, ops, session, held=()):
 
 
 def both_of(name, words, ops, session, held=(), **more):
-    """`view` and `log` of the same words, whose logs have these operations. `held` are the stamps of those that wait, as many as the
-    session says."""
+    """`view` and `log` of the same words, whose logs have these operations. `held` are the stamps
+    of those that wait, as many as the session says."""
     assert set(held) <= {own for own, _ in ops} and session.endswith("held %d\n" % len(held)), name
     case("view_" + name, ["view"] + words, stdout=session, **more)
     case("log_" + name, ["log"] + words, stdout=log_text(ops, held), **more)
@@ -61,11 +80,17 @@ def both_refuse(name, number, words, **more):
 
 def bad_record(name, *records, version=1):
     """A log that is sealed and counted, and one of its records is no operation of the version."""
-    both_refuse(name, 14, ["log"], files={"log": seal(head(len(records), version=version) + b"".join(records))})
+    both_refuse(
+        name,
+        14,
+        ["log"],
+        files={"log": seal(head(len(records), version=version) + b"".join(records))},
+    )
 
 
 def told(name, file, **facts):
-    """`info` of this file, which has one frame of 24 bits at 48000 unless the facts say otherwise."""
+    """`info` of this file, which has one frame of 24 bits at 48000 unless the facts say
+    otherwise."""
     case(name, ["info", "wave"], files={"wave": file}, stdout=info(file, **facts))
 
 

@@ -7,19 +7,50 @@ both_refuse("missing_file", 45, ["missing"])
 both_refuse("missing_before_damaged", 45, ["bad", "missing"], files={"bad": ONE[:-1]})
 both_refuse("a_directory", 45, ["folder"], setup="mkdir folder")
 both_refuse("a_file_as_folder", 45, ["log/log"], files={"log": ONE})
-both_refuse("unreadable_file", 45, ["log"], files={"log": ONE}, setup="chmod 000 log", needs="permissions")
+both_refuse(
+    "unreadable_file", 45, ["log"], files={"log": ONE}, setup="chmod 000 log", needs="permissions"
+)
 both_refuse("output_closed", 37, ["log"], files={"log": ONE}, output="closed")
 both_refuse("output_full", 37, ["log"], files={"log": ONE}, output="full")
 both_refuse("output_to_a_closed_pipe", 37, ["log"], files={"log": ONE}, output="pipe")
 
 # command lines
-STATUS = "\nExit status: 0 done; 1 failed (`radio: fault N`, see `radio explain N`); 2 wrong command line.\n"
+STATUS = (
+    "\n"
+    "Exit status: 0 done; 1 failed (`radio: fault N`, see `radio explain N`); 2 wrong command "
+    "line.\n"
+)
 USAGE = "Usage: radio [OPTIONS] <COMMAND>\n\nFor more information, try '--help'.\n"
-case("no_argument", [], status=2, stderr="error: 'radio' requires a subcommand but one was not provided\n  [subcommands: view, log, timeline, pull, merge, edit, revert, sources, find, diff, check, render, have, lack, take, serve, meet, info, lay, id, explain, completions, man, help]\n\n" + USAGE)
+case(
+    "no_argument",
+    [],
+    status=2,
+    stderr=(
+        "error: 'radio' requires a subcommand but one was not provided\n"
+        "  [subcommands: view, log, timeline, pull, merge, edit, revert, sources, find, diff, "
+        "check, render, have, lack, take, serve, meet, info, lay, id, explain, completions, man, "
+        "help]\n\n"
+        + USAGE
+    ),
+)
 case("frob", ["frob"], status=2, stderr="error: unrecognized subcommand 'frob'\n\n" + USAGE)
 for command in ("view", "log", "timeline"):
-    case(command + "_unknown_option", [command, "--frob"], status=2, stderr="error: unexpected argument '--frob' found\n\n  tip: to pass '--frob' as a value, use '-- --frob'\n\nUsage: radio %s [OPTIONS] [LOG]...\n\nFor more information, try '--help'.\n" % command)
-    case(command + "_word_of_no_text", [command, b"\xff\xfe"], status=2, stderr="error: invalid UTF-8 was detected in one or more arguments\n\n" + USAGE)
+    case(
+        command + "_unknown_option",
+        [command, "--frob"],
+        status=2,
+        stderr=(
+            "error: unexpected argument '--frob' found\n\n"
+            "  tip: to pass '--frob' as a value, use '-- --frob'\n\n"
+            "Usage: radio %s [OPTIONS] [LOG]...\n\nFor more information, try '--help'.\n" % command
+        ),
+    )
+    case(
+        command + "_word_of_no_text",
+        [command, b"\xff\xfe"],
+        status=2,
+        stderr="error: invalid UTF-8 was detected in one or more arguments\n\n" + USAGE,
+    )
 case("version", ["--version"], stdout="radio 0.1.0\n")
 case("version_in_short", ["-V"], stdout="radio 0.1.0\n")
 HELP = """A nondestructive multitrack audio editor whose sessions are replicated
@@ -37,7 +68,8 @@ Commands:
   sources      Lists the recordings that a session plays, and which of the files they are
   find         Finds items by title, or clips by their recording, and prints their stamps
   diff         Prints the operations that only one of two logs has
-  check        Checks a programme before rendering: fails as render would, and lists what may sound unexpected
+  check        Checks a programme before rendering: fails as render would, and lists what may \
+sound unexpected
   render       Renders a log as a Broadcast Wave file, with markers as cue points
   have         Writes a summary of a log, from which another editor sees what is missing
   lack         Writes the operations of a log that another editor is missing
@@ -101,11 +133,20 @@ Options:
 """ + FLAGS + """
 Example: radio merge both.log desk.log home.log
 
-OUT is overwritten, not added to: to add home.log to desk.log, use `radio pull desk.log home.log`. `radio merge desk.log`
+OUT is overwritten, not added to: to add home.log to desk.log, use `radio pull desk.log home.log`. \
+`radio merge desk.log`
 alone makes desk.log an empty log, whatever was in it.
 """ + STATUS
 case("help_of_merge", ["merge", "--help"], stdout=MERGE)
-case("merge_of_nothing", ["merge"], status=2, stderr="error: the following required arguments were not provided:\n  <OUT>\n\nUsage: radio merge <OUT> [LOG]...\n\nFor more information, try '--help'.\n")
+case(
+    "merge_of_nothing",
+    ["merge"],
+    status=2,
+    stderr=(
+        "error: the following required arguments were not provided:\n  <OUT>\n\n"
+        "Usage: radio merge <OUT> [LOG]...\n\nFor more information, try '--help'.\n"
+    ),
+)
 fault("help_to_a_full_disk", 37, ["--help"], output="full")
 INFO = """Prints the format, texts and cue points of a wave file
 
@@ -125,8 +166,21 @@ Example: radio info jingle.wav
 """ + STATUS
 case("help_of_info", ["info", "--help"], stdout=INFO)
 INFO_USAGE = "Usage: radio info <WAVE>\n\nFor more information, try '--help'.\n"
-case("info_of_nothing", ["info"], status=2, stderr="error: the following required arguments were not provided:\n  <WAVE>\n\n" + INFO_USAGE)
-case("info_of_two", ["info", "a", "b"], files={"a": SMALLEST, "b": SMALLEST}, status=2, stderr="error: unexpected argument 'b' found\n\n" + INFO_USAGE.replace("radio info", "radio info [OPTIONS]"))
+case(
+    "info_of_nothing",
+    ["info"],
+    status=2,
+    stderr="error: the following required arguments were not provided:\n  <WAVE>\n\n" + INFO_USAGE,
+)
+case(
+    "info_of_two",
+    ["info", "a", "b"],
+    files={"a": SMALLEST, "b": SMALLEST},
+    status=2,
+    stderr="error: unexpected argument 'b' found\n\n" + INFO_USAGE.replace(
+        "radio info", "radio info [OPTIONS]"
+    ),
+)
 COMPLETIONS = """Prints the completion script for a shell
 
 Usage: radio completions [OPTIONS] <SHELL>
@@ -145,9 +199,22 @@ It completes commands, options, fixed values and file names. bash: source it, or
 fish: save it as ~/.config/fish/completions/radio.fish.
 """ + STATUS
 case("help_of_completions", ["completions", "--help"], stdout=COMPLETIONS)
-OF_ANOTHER_SHELL = "error: invalid value 'powershell' for '<SHELL>'\n  [possible values: bash, zsh, fish]\n\nFor more information, try '--help'.\n"
-case("completions_of_another_shell", ["completions", "powershell"], status=2, stderr=OF_ANOTHER_SHELL)
-case("completions_of_no_shell", ["completions"], status=2, stderr="error: the following required arguments were not provided:\n  <SHELL>\n\nUsage: radio completions <SHELL>\n\nFor more information, try '--help'.\n")
+OF_ANOTHER_SHELL = (
+    "error: invalid value 'powershell' for '<SHELL>'\n  [possible values: bash, zsh, fish]\n\n"
+    "For more information, try '--help'.\n"
+)
+case(
+    "completions_of_another_shell", ["completions", "powershell"], status=2, stderr=OF_ANOTHER_SHELL
+)
+case(
+    "completions_of_no_shell",
+    ["completions"],
+    status=2,
+    stderr=(
+        "error: the following required arguments were not provided:\n  <SHELL>\n\n"
+        "Usage: radio completions <SHELL>\n\nFor more information, try '--help'.\n"
+    ),
+)
 for shell in ("bash", "zsh", "fish"):
     fault("completions_of_%s_to_a_full_disk" % shell, 37, ["completions", shell], output="full")
 MAN = """Prints the manual page radio(1) in roff
@@ -160,10 +227,25 @@ Options:
 
 Example: radio man
 
-Show it with `radio man > radio.1` and `man ./radio.1`; saved as ~/.local/share/man/man1/radio.1, `man radio` finds it.
+Show it with `radio man > radio.1` and `man ./radio.1`; saved as ~/.local/share/man/man1/radio.1, \
+`man radio` finds it.
 """ + STATUS
 case("help_of_man", ["man", "--help"], stdout=MAN)
-case("man_of_a_command", ["man", "view"], status=2, stderr="error: unexpected argument 'view' found\n\nUsage: radio man [OPTIONS]\n\nFor more information, try '--help'.\n")
+case(
+    "man_of_a_command",
+    ["man", "view"],
+    status=2,
+    stderr=(
+        "error: unexpected argument 'view' found\n\nUsage: radio man [OPTIONS]\n\n"
+        "For more information, try '--help'.\n"
+    ),
+)
 fault("man_to_a_full_disk", 37, ["man"], output="full")
 fault("man_told_nowhere", 37, ["man"], output="closed")
-case("man_told_nowhere_why", ["man", "--why"], status=1, output="closed", stderr="radio: fault 37\nradio: why: output standard output cannot be written\n")
+case(
+    "man_told_nowhere_why",
+    ["man", "--why"],
+    status=1,
+    output="closed",
+    stderr="radio: fault 37\nradio: why: output standard output cannot be written\n",
+)

@@ -1,4 +1,5 @@
-"""Cases of exchange by files, and of addresses: what `have`, `lack` and `take` write, and what is refused."""
+"""Cases of exchange by files, and of addresses: what `have`, `lack` and `take` write, and what is
+refused."""
 import re
 import struct
 
@@ -8,7 +9,9 @@ from formats.exchange import BYE, LONGEST, frame, have, ops, ops_body, summary
 from formats.logs import A, B, C, add_marker, log
 
 EMPTY = log([])
-FIVE = [add_marker((number, A, number), number, "A%d" % number) for number in (1, 2, 3, 4)] + [add_marker((1, B, 1), 9, "B")]
+FIVE = [add_marker((number, A, number), number, "A%d" % number) for number in (1, 2, 3, 4)] + [
+    add_marker((1, B, 1), 9, "B")
+]
 FOUND = [op for op in FIVE if op[0][1:] in ((A, 1), (A, 2), (A, 4))]
 LACKED = [op for op in FIVE if op not in FOUND]
 
@@ -18,7 +21,12 @@ def has(name, some, wanted):
 
 
 def lacks(name, some, asked, wanted):
-    case(name, ["lack", "log", "have", "out"], files={"log": log(some), "have": asked}, made={"out": wanted})
+    case(
+        name,
+        ["lack", "log", "have", "out"],
+        files={"log": log(some), "have": asked},
+        made={"out": wanted},
+    )
 
 
 def not_lacked(name, number, asked, some=FIVE):
@@ -26,7 +34,12 @@ def not_lacked(name, number, asked, some=FIVE):
 
 
 def taken(name, some, sent, wanted):
-    case(name, ["take", "log", "ops", "out"], files={"log": log(some), "ops": sent}, made={"out": log(wanted)})
+    case(
+        name,
+        ["take", "log", "ops", "out"],
+        files={"log": log(some), "ops": sent},
+        made={"out": log(wanted)},
+    )
 
 
 def not_taken(name, number, sent, some=FOUND):
@@ -39,9 +52,18 @@ has("have_of_one_operation", [NEWS], have([(A, 1, [])]))
 has("have_of_a_run_and_more", FOUND, have([(A, 2, [4])]))
 has("have_of_two_replicas", FIVE, have([(A, 4, []), (B, 1, [])]))
 has("have_of_what_has_no_first", [LATE], summary([LATE]))
-has("have_of_the_greatest_number", [add_marker((1 << 62, C, 1 << 62), 0, "")], have([(C, 0, [1 << 62])]))
+has(
+    "have_of_the_greatest_number",
+    [add_marker((1 << 62, C, 1 << 62), 0, "")],
+    have([(C, 0, [1 << 62])]),
+)
 assert have([(A, 2, [4])])[:4] == bytes.fromhex("00000029")
-case("have_onto_a_log", ["have", "log", "out"], files={"log": ONE, "out": EMPTY}, made={"out": have([(A, 1, [])])})
+case(
+    "have_onto_a_log",
+    ["have", "log", "out"],
+    files={"log": ONE, "out": EMPTY},
+    made={"out": have([(A, 1, [])])},
+)
 
 # what another lacks
 lacks("lack_of_everything", FIVE, have([]), ops(FIVE) + BYE)
@@ -70,7 +92,12 @@ not_lacked("lack_by_bytes_left_over", 38, frame(have([])[4:] + b"\0"))
 not_lacked("lack_by_another_byte", 38, frame(b"\4\0\0\0\0"))
 not_lacked("lack_by_a_length_too_great", 40, struct.pack(">I", LONGEST + 1))
 not_lacked("lack_by_the_greatest_length_cut", 38, struct.pack(">I", LONGEST))
-fault("lack_of_a_damaged_log", 13, ["lack", "log", "have", "out"], files={"log": ONE[:-1], "have": BYE})
+fault(
+    "lack_of_a_damaged_log",
+    13,
+    ["lack", "log", "have", "out"],
+    files={"log": ONE[:-1], "have": BYE},
+)
 fault("lack_by_a_missing_file", 45, ["lack", "log", "have", "out"], files={"log": ONE})
 
 # what is taken
@@ -79,7 +106,12 @@ taken("take_nothing", FOUND, BYE, FOUND)
 taken("take_what_is_there", FIVE, ops(FIVE) + BYE, FIVE)
 taken("take_in_pieces", FOUND, b"".join(ops([op]) for op in LACKED) + BYE, FIVE)
 taken("take_operations_that_wait", [], ops([LATE]) + BYE, [LATE])
-case("take_onto_the_log", ["take", "log", "ops", "log"], files={"log": log(FOUND), "ops": ops(LACKED) + BYE}, made={"log": log(FIVE)})
+case(
+    "take_onto_the_log",
+    ["take", "log", "ops", "log"],
+    files={"log": log(FOUND), "ops": ops(LACKED) + BYE},
+    made={"log": log(FIVE)},
+)
 not_taken("take_no_byte", 49, b"")
 not_taken("take_without_a_bye", 49, ops(LACKED))
 not_taken("take_a_cut_bye", 49, ops(LACKED) + BYE[:-1])
@@ -99,7 +131,12 @@ not_taken("take_a_log", 40, log(LACKED))
 not_taken("take_a_length_too_great", 40, struct.pack(">I", LONGEST + 1) + b"\2" * 9)
 not_taken("take_another_operation", 17, ops([add_marker((1, A, 1), 1, "other")]) + BYE)
 fault("take_from_a_missing_file", 45, ["take", "log", "ops", "out"], files={"log": ONE})
-fault("take_into_a_missing_folder", 37, ["take", "log", "ops", "folder/out"], files={"log": ONE, "ops": BYE})
+fault(
+    "take_into_a_missing_folder",
+    37,
+    ["take", "log", "ops", "folder/out"],
+    files={"log": ONE, "ops": BYE},
+)
 
 # addresses
 fault("meet_nobody", 46, ["meet", "127.0.0.1:1", "log", "out"], files={"log": ONE})
@@ -111,9 +148,18 @@ fault("meet_with_a_damaged_log", 13, ["meet", "127.0.0.1:1", "log", "out"], file
 fault("serve_with_a_damaged_log", 13, ["serve", "nowhere", "log", "out"], files={"log": ONE[:-1]})
 
 # help
-WAIT = "Wait at most N seconds for the other end: to connect (46), and then for each read (45) and write (37)"
+WAIT = (
+    "Wait at most N seconds for the other end: to connect (46), and then for each read (45) and "
+    "write (37)"
+)
 WAITS = {
-    "serve": ["      --wait <N>      " + WAIT, "      --meetings <N>  Serve N editors, one after another, or with 0 all who connect; LOG is read again for each"],
+    "serve": [
+        "      --wait <N>      " + WAIT,
+        (
+            "      --meetings <N>  Serve N editors, one after another, or with 0 all who connect; "
+            "LOG is read again for each"
+        ),
+    ],
     "meet": ["      --wait <N>  " + WAIT],
 }
 
@@ -121,20 +167,83 @@ WAITS = {
 def widened(flags, others):
     """The lines of these flags, whose texts begin where those of the others do."""
     at = others[0].index(WAIT)
-    return [re.sub(r"^( *(?:-h, )?\S+) +", lambda found: found.group(1).ljust(at), line) for line in flags.splitlines()]
+    return [
+        re.sub(r"^( *(?:-h, )?\S+) +", lambda found: found.group(1).ljust(at), line)
+        for line in flags.splitlines()
+    ]
 
 
 HELPS = {
-    "have": ("Writes a summary of a log, from which another editor sees what is missing", [("LOG", "The log"), ("OUT", "The summary to write; an existing file is replaced, even LOG")], "radio have home.log home.have"),
-    "lack": ("Writes the operations of a log that another editor is missing", [("LOG", "The log"), ("HAVE", "The other editor's summary, written by `radio have`"), ("OUT", "The operations to write; an existing file is replaced, even LOG or HAVE")], "radio lack desk.log home.have for-home.ops"),
-    "take": ("Adds the operations that another editor sent, and writes the new log", [("LOG", "The log to begin with"), ("OPS", "The operations, written by `radio lack`"), ("OUT", "The log to write, usually LOG; an existing file is replaced, even OPS")], "radio take home.log for-home.ops home.log"),
-    "serve": ("Waits for one editor who connects, exchanges operations, and writes the new log", [("ADDR", "The address to listen on, such as 127.0.0.1:7000"), ("LOG", "The log to begin with"), ("OUT", "The log to write, usually LOG")], "radio serve 127.0.0.1:7000 desk.log desk.log"),
-    "meet": ("Connects to an editor who serves, exchanges operations, and writes the new log", [("ADDR", "The address of the editor who serves, such as 127.0.0.1:7000"), ("LOG", "The log to begin with"), ("OUT", "The log to write, usually LOG")], "radio meet 127.0.0.1:7000 home.log home.log"),
+    "have": (
+        "Writes a summary of a log, from which another editor sees what is missing",
+        [
+            ("LOG", "The log"),
+            ("OUT", "The summary to write; an existing file is replaced, even LOG"),
+        ],
+        "radio have home.log home.have",
+    ),
+    "lack": (
+        "Writes the operations of a log that another editor is missing",
+        [
+            ("LOG", "The log"),
+            ("HAVE", "The other editor's summary, written by `radio have`"),
+            ("OUT", "The operations to write; an existing file is replaced, even LOG or HAVE"),
+        ],
+        "radio lack desk.log home.have for-home.ops",
+    ),
+    "take": (
+        "Adds the operations that another editor sent, and writes the new log",
+        [
+            ("LOG", "The log to begin with"),
+            ("OPS", "The operations, written by `radio lack`"),
+            ("OUT", "The log to write, usually LOG; an existing file is replaced, even OPS"),
+        ],
+        "radio take home.log for-home.ops home.log",
+    ),
+    "serve": (
+        "Waits for one editor who connects, exchanges operations, and writes the new log",
+        [
+            ("ADDR", "The address to listen on, such as 127.0.0.1:7000"),
+            ("LOG", "The log to begin with"),
+            ("OUT", "The log to write, usually LOG"),
+        ],
+        "radio serve 127.0.0.1:7000 desk.log desk.log",
+    ),
+    "meet": (
+        "Connects to an editor who serves, exchanges operations, and writes the new log",
+        [
+            ("ADDR", "The address of the editor who serves, such as 127.0.0.1:7000"),
+            ("LOG", "The log to begin with"),
+            ("OUT", "The log to write, usually LOG"),
+        ],
+        "radio meet 127.0.0.1:7000 home.log home.log",
+    ),
 }
 for command, (about, words, example) in HELPS.items():
     wide = max(len(word) for word, _ in words) + 2
     arguments = "".join("  %s  %s\n" % (("<%s>" % word).ljust(wide), text) for word, text in words)
     usage = "Usage: radio %s %s" % (command, " ".join("<%s>" % word for word, _ in words))
-    flags = FLAGS if command not in WAITS else "".join(line + "\n" for line in WAITS[command] + widened(FLAGS, WAITS[command]))
-    case("help_of_" + command, [command, "--help"], stdout="%s\n\n%s\n\nArguments:\n%s\nOptions:\n%s\nExample: %s\n" % (about, usage.replace(command, command + " [OPTIONS]", 1), arguments, flags, example) + STATUS)
-    case(command + "_without_words", [command], status=2, stderr="error: the following required arguments were not provided:\n%s\n%s\n\nFor more information, try '--help'.\n" % ("".join("  <%s>\n" % word for word, _ in words), usage))
+    flags = (
+        FLAGS
+        if command not in WAITS
+        else "".join(line + "\n" for line in WAITS[command] + widened(FLAGS, WAITS[command]))
+    )
+    case(
+        "help_of_" + command,
+        [command, "--help"],
+        stdout=(
+            "%s\n\n%s\n\nArguments:\n%s\nOptions:\n%s\nExample: %s\n"
+            % (about, usage.replace(command, command + " [OPTIONS]", 1), arguments, flags, example)
+            + STATUS
+        ),
+    )
+    case(
+        command + "_without_words",
+        [command],
+        status=2,
+        stderr=(
+            "error: the following required arguments were not provided:\n%s\n%s\n\n"
+            "For more information, try '--help'.\n"
+            % ("".join("  <%s>\n" % word for word, _ in words), usage)
+        ),
+    )

@@ -1,10 +1,13 @@
-"""Cases of `radio log` alone: the words of each act, the order of the lines, and which operations wait. What it lists of the sessions
-of other subjects stands there, beside what `radio view` shows."""
+"""Cases of `radio log` alone: the words of each act, the order of the lines, and which operations
+wait. What it lists of the sessions of other subjects stands there, beside what `radio view`
+shows."""
 from subjects.case import M, NEWS, case
 from subjects.merges import CUES, MANY
 from formats.log_text import log_text
-from formats.logs import (A, B, C, add_clip, add_marker, add_track, log, move_clip, move_marker, move_track, remove, restore, retitle, set_fade, set_gain,
-                  set_marker_length, set_mute, stamp_text, trim_clip)
+from formats.logs import (
+    A, B, C, add_clip, add_marker, add_track, log, move_clip, move_marker, move_track, remove,
+    restore, retitle, set_fade, set_gain, set_marker_length, set_mute, stamp_text, trim_clip,
+)
 
 SOURCE = bytes(range(32))
 TRACK, CLIP, MARKER = (1, A, 1), (2, A, 2), (3, A, 3)
@@ -17,8 +20,12 @@ def line(own, status, act):
 
 
 def listing(name, ops, lines, held=()):
-    """The lines are written by hand, and what the other subjects take for the text has to be the same."""
-    text = "".join(line(own, "held" if own in held else "ready", act) for own, *act in lines) + "operations %d\n" % len(ops)
+    """The lines are written by hand, and what the other subjects take for the text has to be the
+    same."""
+    text = (
+        "".join(line(own, "held" if own in held else "ready", act) for own, *act in lines)
+        + "operations %d\n" % len(ops)
+    )
     assert text == log_text(ops, held), name
     case("log_" + name, ["log", "log"], files={"log": log(ops)}, stdout=text)
 
@@ -38,7 +45,10 @@ ALL = [
     (set_mute((12, B, 9), TRACK, 0), ["mute", TRACK, "off"]),
     (remove((13, C, 1), MARKER, [MARKER]), ["remove", MARKER, "tags", MARKER]),
     (restore((14, C, 2), MARKER), ["restore", MARKER]),
-    (remove((15, C, 3), MARKER, [MARKER, (14, C, 2)]), ["remove", MARKER, "tags", MARKER, (14, C, 2)]),
+    (
+        remove((15, C, 3), MARKER, [MARKER, (14, C, 2)]),
+        ["remove", MARKER, "tags", MARKER, (14, C, 2)],
+    ),
     (move_marker((16, C, 4), MARKER, 0), ["move-marker", MARKER, 0]),
     (retitle((17, C, 5), MARKER, "Grüße: 新聞"), ["retitle", MARKER, "Grüße: 新聞"]),
     (set_fade((18, C, 6), CLIP, 1048576, 0), ["fade", CLIP, 1048576, 0]),
@@ -49,15 +59,41 @@ listing("of_every_act", [op for op, _ in ALL], [[op[0]] + act for op, act in ALL
 for op, act in ALL:
     if op[0] not in (TRACK, MARKER):
         listing("alone_%s_%d" % (act[0], op[0][0]), [op], [[op[0]] + act], held=[op[0]])
-listing("of_a_title_that_begins_with_a_space", [add_marker(M, 480, " a  b ")], [[M, "add-marker", 480, " a  b "]])
+listing(
+    "of_a_title_that_begins_with_a_space",
+    [add_marker(M, 480, " a  b ")],
+    [[M, "add-marker", 480, " a  b "]],
+)
 # by clock, then replica, then number, while a log stands by replica
-listing("by_rising_stamp", [add_marker((2, A, 1), 1, "a"), add_marker((3, A, 2), 2, "b"), add_marker((1, B, 1), 3, "c"), add_marker((2, B, 2), 4, "d")],
-        [[(1, B, 1), "add-marker", 3, "c"], [(2, A, 1), "add-marker", 1, "a"], [(2, B, 2), "add-marker", 4, "d"], [(3, A, 2), "add-marker", 2, "b"]])
+listing(
+    "by_rising_stamp",
+    [
+        add_marker((2, A, 1), 1, "a"),
+        add_marker((3, A, 2), 2, "b"),
+        add_marker((1, B, 1), 3, "c"),
+        add_marker((2, B, 2), 4, "d"),
+    ],
+    [
+        [(1, B, 1), "add-marker", 3, "c"],
+        [(2, A, 1), "add-marker", 1, "a"],
+        [(2, B, 2), "add-marker", 4, "d"],
+        [(3, A, 2), "add-marker", 2, "b"],
+    ],
+)
 # what waits for what waits
-listing("of_a_chain_without_its_first", [add_track((2, B, 1), TRACK, "q"), add_track((3, B, 2), (2, B, 1), "r"), NEWS],
-        [[M, "add-marker", 480, "News"], [(2, B, 1), "add-track", TRACK, "q"], [(3, B, 2), "add-track", (2, B, 1), "r"]], held=[(2, B, 1), (3, B, 2)])
+listing(
+    "of_a_chain_without_its_first",
+    [add_track((2, B, 1), TRACK, "q"), add_track((3, B, 2), (2, B, 1), "r"), NEWS],
+    [
+        [M, "add-marker", 480, "News"],
+        [(2, B, 1), "add-track", TRACK, "q"],
+        [(3, B, 2), "add-track", (2, B, 1), "r"],
+    ],
+    held=[(2, B, 1), (3, B, 2)],
+)
 
-# each name that an operation can have is given to an operation of each act: those wait whose role it does not fit
+# each name that an operation can have is given to an operation of each act: those wait whose role
+# it does not fit
 NAMED = {}
 for op, act in ALL:
     NAMED.setdefault(act[0], op[0])
@@ -94,10 +130,21 @@ for name, (role, naming) in NAMES.items():
     namings = {act: naming((20 + turn, C, 10 + turn), NAMED[act]) for turn, act in enumerate(NAMED)}
     ops = [op for op, _ in ALL] + list(namings.values())
     held = [op[0] for act, op in namings.items() if act not in FITS[role]]
-    case("log_each_act_as_" + name, ["log", "log"], files={"log": log(ops)}, stdout=log_text(ops, held))
+    case(
+        "log_each_act_as_" + name,
+        ["log", "log"],
+        files={"log": log(ops)},
+        stdout=log_text(ops, held),
+    )
 
-case("log_of_twelve_logs", ["log"] + [name for name, _ in MANY], files=dict(MANY), stdout=log_text([NEWS] + CUES))
-case("help_of_log", ["log", "--help"], stdout="""Prints the operations of one or more logs, sorted by stamp
+case(
+    "log_of_twelve_logs",
+    ["log"] + [name for name, _ in MANY],
+    files=dict(MANY),
+    stdout=log_text([NEWS] + CUES),
+)
+case("help_of_log", ["log", "--help"], stdout="""Prints the operations of one or more logs, sorted \
+by stamp
 
 Usage: radio log [OPTIONS] [LOG]...
 

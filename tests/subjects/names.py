@@ -1,4 +1,5 @@
-"""Cases of what may not be replaced: `--new` is refused where OUT is there, when the part would be made."""
+"""Cases of what may not be replaced: `--new` is refused where OUT is there, when the part would be
+made."""
 from subjects.case import NEWS, ONE, case, fault
 from formats.exchange import BYE, have, summary
 from formats.logs import A, log
@@ -13,13 +14,43 @@ COMMANDS = {
     "take": (["take", "log", "other", "out"], {"other": BYE}),
 }
 for command, (words, other) in COMMANDS.items():
-    fault(command + "_new_where_there_is_one", 37, words + ["--new"], files=dict(other, log=ONE, **THERE))
+    fault(
+        command + "_new_where_there_is_one",
+        37,
+        words + ["--new"],
+        files=dict(other, log=ONE, **THERE),
+    )
     # what is read is refused first
-    fault(command + "_new_damaged_where_there_is_one", 13, words + ["--new"], files=dict(other, log=CUT, **THERE))
-fault("merge_new_where_there_is_one", 37, ["merge", "--new", "out", "log"], files=dict(log=ONE, **THERE))
-fault("merge_new_damaged_where_there_is_one", 37, ["merge", "out", "log", "--new"], files=dict(log=CUT, **THERE))
+    fault(
+        command + "_new_damaged_where_there_is_one",
+        13,
+        words + ["--new"],
+        files=dict(other, log=CUT, **THERE),
+    )
+fault(
+    "merge_new_where_there_is_one",
+    37,
+    ["merge", "--new", "out", "log"],
+    files=dict(log=ONE, **THERE),
+)
+fault(
+    "merge_new_damaged_where_there_is_one",
+    37,
+    ["merge", "out", "log", "--new"],
+    files=dict(log=CUT, **THERE),
+)
 fault("merge_new_into_its_log", 37, ["merge", "--new", "log", "log"], files={"log": ONE})
-fault("render_new_where_there_is_one", 37, ["render", "out", "log", "--new"], files=dict(log=ONE, **THERE))
+fault(
+    "render_new_where_there_is_one",
+    37,
+    ["render", "out", "log", "--new"],
+    files=dict(log=ONE, **THERE),
+)
 case("merge_new", ["merge", "--new", "out", "log"], files={"log": ONE}, made={"out": ONE})
-case("merge_without_sync", ["merge", "out", "log", "--no-sync"], files={"log": ONE}, made={"out": ONE})
+case(
+    "merge_without_sync",
+    ["merge", "out", "log", "--no-sync"],
+    files={"log": ONE},
+    made={"out": ONE},
+)
 case("have_new", ["have", "log", "out", "--new"], files={"log": ONE}, made={"out": summary([NEWS])})

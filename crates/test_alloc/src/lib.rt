@@ -1,14 +1,14 @@
-//! An allocator for tests: it refuses one chosen allocation and passes every other one on.
+//! An allocator for tests: one chosen allocation fails, and all others are passed on.
 //!
 //! A test that gives `&Refusing` to the code under test, with `at` = 0, 1, 2 and so on, makes each
-//! allocation of that code fail once. The run that meets no refusal ends the loop.
+//! allocation of that code fail once. The loop ends with the run in which none failed.
 //!
 //! ```rust
 //! use test_alloc::Refusing;
 //! use std::alloc::{AllocError, Allocator};
 //! use std::test::Fail;
 //!
-//! // What is tested: two allocations.
+//! // The code under test: two allocations.
 //! fn two_lists<M: Allocator + Copy>(memory: M) -> Result<usize, AllocError> {
 //!     let first = Vec::from_slice(memory, &[1, 2])?;
 //!     let second = Vec::from_slice(memory, &[3])?;
@@ -29,9 +29,9 @@
 //! }
 //! ```
 //!
-//! What is proved of it is that it is an allocator: a block that it hands out is its user's until
-//! it is given back. Which call it refuses, and what it counts, stands in cells, and no clause can
-//! name what a cell holds: that behaviour is shown by the tests alone.
+//! It is proved to be an allocator: a block that it returns belongs to its user until it is
+//! deallocated. Which call fails, and the count, are in cells, and no contract can name the content
+//! of a cell. Only the tests show that behaviour.
 #![tactic(auto)]
 
 use std::alloc::{AllocError, Allocator};
@@ -40,10 +40,9 @@ mod tally;
 
 use tally::Tally;
 
-/// Passes every call on to `inner`, except for one allocation, which it answers with `AllocError`.
+/// Passes every call on to `inner`, except for one allocation, which fails with `AllocError`.
 ///
-/// `&Refusing` is an `Allocator` that can be copied, so that several collections can share one
-/// count.
+/// `&Refusing` is an `Allocator` that can be copied, so several collections can share one count.
 #[derive(Drop)]
 pub struct Refusing<B: Allocator> {
     inner: B,
@@ -51,7 +50,7 @@ pub struct Refusing<B: Allocator> {
 }
 
 impl<B: Allocator> Refusing<B> {
-    /// Refuses the allocation number `at` of those that it will be asked for, counted from 0.
+    /// Makes the allocation with the number `at` fail, counted from 0.
     pub fn new(inner: B, at: u64) -> Refusing<B> {
         Refusing {
             inner,
@@ -59,13 +58,13 @@ impl<B: Allocator> Refusing<B> {
         }
     }
 
-    /// Whether the chosen allocation was asked for, and so refused.
+    /// Whether the chosen allocation was requested, and so failed.
     pub fn has_refused(&self) -> bool {
         self.tally.has_refused()
     }
 
-    /// How many allocations were asked for, the refused one among them. A block that grows by the
-    /// trait's own `grow` asks for one.
+    /// The number of requested allocations, including the one that failed. A block that grows by
+    /// the default `grow` of the trait requests one.
     pub fn allocations(&self) -> u64 {
         self.tally.asked()
     }

@@ -1,4 +1,4 @@
-//! The count of allocations that were asked for, and the one among them that is to be refused.
+//! The count of requested allocations, and the number of the one that has to fail.
 use std::cell::Cell;
 
 #[derive(Drop)]
@@ -9,7 +9,7 @@ pub struct Tally {
 }
 
 impl Tally {
-    /// None was asked for yet; number `at`, counted from 0, is the one to refuse.
+    /// No allocation was requested yet; number `at`, counted from 0, has to fail.
     pub fn new(at: u64) -> Tally {
         Tally {
             at,
@@ -18,7 +18,7 @@ impl Tally {
         }
     }
 
-    /// Counts one more allocation, and says whether it is the one to refuse.
+    /// Counts one more allocation, and says whether it has to fail.
     pub fn refuses_next(&self) -> bool {
         let number = self.asked.get();
         self.asked.set(number.wrapping_add(1));
@@ -29,12 +29,12 @@ impl Tally {
         refuses
     }
 
-    /// Whether the one to refuse was asked for.
+    /// Whether the allocation that has to fail was requested.
     pub fn has_refused(&self) -> bool {
         self.refused.get()
     }
 
-    /// How many were asked for.
+    /// The number of requested allocations.
     pub fn asked(&self) -> u64 {
         self.asked.get()
     }

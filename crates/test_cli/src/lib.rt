@@ -1,4 +1,4 @@
-//! Tests of mt_cli: each command over memory and devices that fail, and editors that agree.
+//! Tests of mt_cli: each command over an allocator and devices that fail, and editors that agree.
 #![tactic(auto)]
 
 #[cfg(test)]

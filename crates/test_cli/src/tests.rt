@@ -1,5 +1,5 @@
-//! What no clause says: texts that were written out by hand, which device fails where, each growth
-//! refused in turn, and that editors agree.
+//! What no contract says: texts written by hand, which device fails where, each allocation failing
+//! in turn, and that editors agree.
 mod allocation;
 mod calls;
 mod commands;

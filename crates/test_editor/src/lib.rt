@@ -1,6 +1,6 @@
-//! Tests of editors: mt_replica, sync_world and mt_sync. What becomes of an operation that is
-//! taken, what an edit makes and is refused for, and what it costs; conversations by bytes written
-//! out by hand, and what is carried by hand; each growth refused in turn.
+//! Tests of editors: mt_replica, sync_world and mt_sync. They show how an editor applies an
+//! operation, what an edit creates, why it fails and what it costs. Conversations and messages are
+//! compared with bytes written by hand. Each allocation fails in turn.
 #![tactic(auto)]
 
 #[cfg(test)]

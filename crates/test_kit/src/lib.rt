@@ -1,5 +1,5 @@
-//! What the tests of several crates share: memory that refuses a chosen growth, readers and writers
-//! that fail where a test says, and builders of operations and logs.
+//! Code that the tests of several crates share: an allocator with a chosen failure, readers and
+//! writers that fail where a test wants it, and builders of operations and logs.
 //!
 //! ```rust
 //! use mt_opcodec::{Latch, Log, LogFault};
@@ -9,7 +9,7 @@
 //! use std::test::Fail;
 //!
 //! fn fails_where_a_test_says(rt: HostRuntime) -> Result<(), Fail> {
-//!     // two markers, and memory that refuses the first growth
+//!     // two markers, and a first allocation that fails
 //!     let stamps = [Stamp::new(1, A, 1)?, Stamp::new(1, B, 1)?];
 //!     let text = log_of(&rt.alloc(), &stamps)?.write()?;
 //!     let memory = Refusing::new(rt.alloc(), 0);

@@ -24,7 +24,7 @@ pub fn retitle<M: Allocator>(
     Op::new(stamp, Body::Retitle { item, title })
 }
 
-/// A track `Voice` that is put after this place, or at the head.
+/// A track `Voice` after this place, or at the head.
 pub fn add_track<M: Allocator>(
     memory: M,
     stamp: Stamp,
@@ -34,7 +34,7 @@ pub fn add_track<M: Allocator>(
     Op::new(stamp, Body::AddTrack { after, title })
 }
 
-/// A Remove of an item that lists these tags.
+/// A Remove of an item with these tags.
 pub fn removal<M: Allocator>(
     memory: M,
     stamp: Stamp,

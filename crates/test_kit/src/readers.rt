@@ -1,7 +1,7 @@
-//! Readers of one byte at a time that fail where a test says.
+//! Readers of one byte at a time that fail where a test wants it.
 use std::io::{Error, ErrorKind, Read, Result};
 
-/// Gives a byte at each of its first `good` reads, and then fails.
+/// Returns a byte at each of its first `good` reads, and then fails.
 #[derive(Drop)]
 pub struct FailingReader {
     good: usize,
@@ -34,7 +34,7 @@ impl Read for FailingReader {
     }
 }
 
-/// Gives one byte at each read, and never ends.
+/// Returns one byte at each read, and never ends.
 #[derive(Drop)]
 pub struct OneByteForEver {
     asked: usize,
@@ -57,7 +57,7 @@ impl Read for OneByteForEver {
     }
 }
 
-/// Gives a text byte by byte, and fails at the read of this number, counted from 0.
+/// Returns a text byte by byte, and fails at the read with this number, counted from 0.
 #[derive(Drop)]
 pub struct SlowReader<'a> {
     text: &'a [u8],

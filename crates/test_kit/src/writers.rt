@@ -1,8 +1,8 @@
-//! Writers that fail where a test says, and count how often they were asked.
+//! Writers that fail where a test wants it, and record the size of the greatest write.
 use std::alloc::Allocator;
 use std::io::{Error, ErrorKind, Result, Write};
 
-/// Takes one byte, or up to so many, at each of its first `good` writes, and then fails.
+/// Takes at most a given number of bytes at each of its first `good` writes, and then fails.
 #[derive(Drop)]
 pub struct FailingWriter<A: Allocator> {
     at_once: usize,
@@ -14,12 +14,12 @@ pub struct FailingWriter<A: Allocator> {
 }
 
 impl<A: Allocator> FailingWriter<A> {
-    /// One that takes one byte at each write.
+    /// A writer that takes one byte at each write.
     pub fn new(alloc: A, good: usize, kind: ErrorKind) -> FailingWriter<A> {
         FailingWriter::of_pieces(alloc, 1, good, kind)
     }
 
-    /// One that takes up to `at_once` bytes at each write.
+    /// A writer that takes up to `at_once` bytes at each write.
     pub fn of_pieces(alloc: A, at_once: usize, good: usize, kind: ErrorKind) -> FailingWriter<A> {
         FailingWriter {
             at_once,
@@ -35,7 +35,7 @@ impl<A: Allocator> FailingWriter<A> {
         self.asked
     }
 
-    /// How many bytes it was given at one write at most.
+    /// The greatest number of bytes in one write.
     pub fn greatest(&self) -> usize {
         self.greatest
     }
@@ -63,7 +63,7 @@ impl<A: Allocator> Write for FailingWriter<A> {
     }
 }
 
-/// Takes no byte.
+/// Takes no bytes.
 #[derive(Drop)]
 pub struct ChokedWriter {
     asked: usize,

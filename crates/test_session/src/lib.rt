@@ -1,6 +1,6 @@
-//! Tests of sessions: session_state and mt_sessionview. What is left where an allocation or a write
-//! fails, and one session's text. The tests of editors note operations one by one and mend sessions
-//! by them, which is session_update.
+//! Tests of sessions, of session_state and mt_sessionview: the state after a failing allocation or
+//! write, and the text of one session. The tests of editors apply operations one by one and update
+//! sessions by them, which is the work of session_update.
 #![tactic(auto)]
 
 #[cfg(test)]

@@ -9,7 +9,7 @@ use mt_opcodec::read_op;
 use mt_replica::Change;
 use std::alloc::Global;
 
-// The change of a body that says what becomes of a track, or that has a title.
+// The change of a body that is about a track or has a title.
 fn titled(body: &Body) -> Option<Change>
     ensures { IfSome result (λ change. edit_of change ≡ same_edit (act_of body.now)) }
 {
@@ -33,7 +33,7 @@ fn titled(body: &Body) -> Option<Change>
     }
 }
 
-// The change of a body that has no title and is of no clip.
+// The change of a body that has no title and is not about a clip.
 fn plain(body: &Body) -> Option<Change>
     ensures { IfSome result (λ change. edit_of change ≡ same_edit (act_of body.now)) }
 {
@@ -49,7 +49,7 @@ fn plain(body: &Body) -> Option<Change>
     }
 }
 
-// The change of a body of a clip.
+// The change of a body that is about a clip.
 fn of_clip(body: &Body) -> Option<Change>
     ensures { IfSome result (λ change. edit_of change ≡ same_edit (act_of body.now)) }
 {
@@ -82,7 +82,7 @@ fn of_clip(body: &Body) -> Option<Change>
     }
 }
 
-// The change that a body says.
+// The change of a body.
 fn said_by(body: &Body) -> Option<Change>
     ensures { IfSome result (λ change. edit_of change ≡ same_edit (act_of body.now)) }
 {
@@ -95,7 +95,7 @@ fn said_by(body: &Body) -> Option<Change>
     titled(body)
 }
 
-/// The change that the body of an operation says, from the operation's text in hex.
+/// The change of an operation's body, from the operation's text in hex.
 pub(crate) fn change_of(alloc: Global, text: &str) -> Option<Change> {
     let bytes = hex::decode(alloc, text).ok()?;
     let (op, _) = read_op(alloc, &bytes).ok()?;

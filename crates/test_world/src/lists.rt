@@ -7,7 +7,7 @@ use std::alloc::Global;
 use std::str::SplitAsciiWhitespace;
 use sync_world::{Event, World};
 
-// The number that the next word is.
+// The number in the next word.
 fn number(words: &mut SplitAsciiWhitespace<'_>) -> Option<usize> {
     words.next()?.parse().ok()
 }
@@ -24,7 +24,7 @@ fn event_of(alloc: Global, word: &str, words: &mut SplitAsciiWhitespace<'_>) -> 
     }
 }
 
-/// The world of a list.
+/// The world of a list of events.
 pub(crate) fn world_of(alloc: Global, line: &str) -> Option<World> {
     let mut names = Vec::new(alloc);
     let mut events = Vec::new(alloc);

@@ -1,12 +1,14 @@
-//! `test_world`: runs lists of events, and prints what was sent and what each editor has and shows.
+//! `test_world`: runs lists of events, and prints what was sent, and the log and session of each
+//! editor.
 //!
-//! Each line of standard input is a list, of parts with a comma between them: `editor NAME` for
-//! each editor, and then the events: `edit EDITOR CHANGE`, `save EDITOR`, `take EDITOR SENT` and
-//! `restart EDITOR`. A change is an operation's text in hex, of which the body alone counts,
-//! without the tags of a Remove; what a track is put after is a track. For each line it prints a
-//! line `sent OPERATION` for each operation that was sent, and for each editor a line `log LOG`,
-//! both in hex, and its session. Other texts end it with status 1. `tests/checks/world.py` compares
-//! what it prints with a second reading of what a world is.
+//! Each line of standard input is a list of parts, separated by commas: `editor NAME` for each
+//! editor, and then the events `edit EDITOR CHANGE`, `save EDITOR`, `take EDITOR SENT` and
+//! `restart EDITOR`. A change is an operation's text in hex, of which only the body counts, without
+//! the tags of a Remove; a track is put after a track, not a place.
+//!
+//! For each line it prints `sent OPERATION` for each operation that was sent, and for each editor a
+//! line `log LOG`, both in hex, and its session. Other input ends it with status 1.
+//! `tests/checks/world.py` compares the output with a Python model of worlds.
 #![tactic(auto)]
 
 mod changes;

@@ -1,4 +1,4 @@
-//! What is printed of a world.
+//! The report on a world.
 
 use mt_op::Op;
 use mt_opcodec::{Latch, write_op};
@@ -8,7 +8,7 @@ use std::alloc::Global;
 use std::io::Write;
 use sync_world::World;
 
-// Puts a line of a word and bytes in hex.
+// Prints a line: a word and bytes in hex.
 fn put_line<W: Write>(
     alloc: Global,
     word: &str,
@@ -22,21 +22,21 @@ fn put_line<W: Write>(
     output.put(b"\n").ok()
 }
 
-// Puts the line of an operation that was sent.
+// Prints the line of an operation that was sent.
 fn put_op<W: Write>(alloc: Global, op: &Op, output: &mut Latch<W>) -> Option<()> {
     let mut text = Vec::new(alloc);
     write_op(op, &mut text).ok()?;
     put_line(alloc, "sent", &text, output)
 }
 
-// Puts an editor's log and session.
+// Prints an editor's log and session.
 fn put_editor<W: Write>(alloc: Global, editor: &Editor, output: &mut Latch<W>) -> Option<()> {
     let log = editor.log()?.write().ok()?;
     put_line(alloc, "log", &log, output)?;
     write_text(editor.session()?, output).ok()
 }
 
-/// Puts what was sent, and what each editor has and shows.
+/// Prints what was sent, and the log and session of each editor.
 pub(crate) fn put_world<W: Write>(
     alloc: Global,
     world: &World,

@@ -1,6 +1,6 @@
-//! Wave files. What is a wave file and what it says, and why other bytes are refused, the clauses
-//! say of all bytes; the cases of `radio info` and `radio render` show it. No call takes memory,
-//! whatever counts and sizes the bytes tell.
+//! Wave files. The contracts define for all bytes whether they are a wave file, what it contains
+//! and why others are rejected; the cases of `radio info` and `radio render` show it. No call
+//! allocates, whatever counts and sizes a file claims.
 
 mod lengths;
 
@@ -8,7 +8,7 @@ use mt_bwfread::{Wave, WaveFault};
 use std::alloc::{AllocError, Global};
 use std::test::Fail;
 
-/// One frame of one channel of 8 bits, without the last pad byte.
+/// One frame of one channel of 8 bits, without the final pad byte.
 const SMALLEST: [u8; 45] = [
     0x52, 0x49, 0x46, 0x46, 0x25, 0x00, 0x00, 0x00, 0x57, 0x41, 0x56, 0x45, 0x66, 0x6d, 0x74, 0x20,
     0x10, 0x00, 0x00, 0x00, 0x01, 0x00, 0x01, 0x00, 0x44, 0xac, 0x00, 0x00, 0x44, 0xac, 0x00, 0x00,
@@ -21,7 +21,7 @@ fn put_chunk(out: &mut Vec<u8>, id: &[u8], content: &[u8]) -> Result<(), AllocEr
     out.extend_from_slice(content)
 }
 
-/// A wave file of these chunks, each with its pad byte.
+/// A wave file with these chunks, each with its pad byte.
 pub(crate) fn file(alloc: Global, chunks: &[(&[u8], &[u8])]) -> Result<Vec<u8>, AllocError> {
     let mut body = Vec::from_slice(alloc, b"WAVE")?;
     for (id, content) in chunks {
@@ -35,7 +35,7 @@ pub(crate) fn file(alloc: Global, chunks: &[(&[u8], &[u8])]) -> Result<Vec<u8>, 
     Ok(out)
 }
 
-/// The content of a chunk `fmt ` for PCM at 8000 samples a second.
+/// The content of a `fmt ` chunk for PCM at 8000 frames per second.
 pub(crate) fn pcm(channels: u8, bits: u8) -> [u8; 16] {
     let align = channels.wrapping_mul(bits / 8);
     [
@@ -43,7 +43,7 @@ pub(crate) fn pcm(channels: u8, bits: u8) -> [u8; 16] {
     ]
 }
 
-// The sample, or none where there is no such frame or channel.
+// The sample, or `None` if there is no such frame or channel.
 fn sample(wave: &Wave<'_>, frame: u64, channel: u16) -> Option<i64> {
     if frame < wave.frames() && channel < wave.channels() {
         Some(wave.sample(frame, channel))
@@ -52,7 +52,7 @@ fn sample(wave: &Wave<'_>, frame: u64, channel: u16) -> Option<i64> {
     }
 }
 
-// Whether a file has neither an extension nor a cue point nor a label nor a length.
+// Whether a file has no extension, cue point, label or length.
 fn is_plain(wave: &Wave<'_>) -> bool {
     let has_cue = wave.cue_count() > 0 || wave.point(0).is_some() || wave.cue(0).is_some();
     let has_label = wave.label(0).is_some() || wave.labels().next().is_some();
@@ -71,15 +71,17 @@ fn smallest(rt: HostRuntime) -> Result<(), Fail> {
     Ok(())
 }
 
-// The same with an extensible format of 40 bytes, whose subformat is PCM.
+// A file with an extensible format of 40 bytes, whose subformat is PCM.
 const EXTENSIBLE: &[u8] =
-    b"RIFF\x3d\0\0\0WAVEfmt \x28\0\0\0\xfe\xff\x01\0\x44\xac\0\0\x44\xac\0\0\x01\0\x08\0\x16\0\x08\0\0\0\0\0\x01\0\0\0\0\0\x10\0\x80\0\0\xaa\0\x38\x9b\x71data\x01\0\0\0\0";
+    b"RIFF\x3d\0\0\0WAVEfmt \x28\0\0\0\xfe\xff\x01\0\x44\xac\0\0\x44\xac\0\0\x01\0\x08\0\x16\0\x08\
+      \0\0\0\0\0\x01\0\0\0\0\0\x10\0\x80\0\0\xaa\0\x38\x9b\x71data\x01\0\0\0\0";
 
-// The same with a chunk `JUNK` of three bytes and its pad byte before the format.
+// A file with a `JUNK` chunk of three bytes and its pad byte before the format.
 const WITH_JUNK: &[u8] =
-    b"RIFF\x31\0\0\0WAVEJUNK\x03\0\0\0abc\0fmt \x10\0\0\0\x01\0\x01\0\x44\xac\0\0\x44\xac\0\0\x01\0\x08\0data\x01\0\0\0\0";
+    b"RIFF\x31\0\0\0WAVEJUNK\x03\0\0\0abc\0\
+      fmt \x10\0\0\0\x01\0\x01\0\x44\xac\0\0\x44\xac\0\0\x01\0\x08\0data\x01\0\0\0\0";
 
-// Whether bytes are read as the smallest file is.
+// Whether these bytes are read like the smallest file.
 fn is_smallest(bytes: &[u8]) -> bool {
     match Wave::read(bytes) {
         Ok(wave) => {
@@ -100,7 +102,7 @@ fn reads_other_forms_of_the_smallest(rt: HostRuntime) {
     assert!(rt; refusal(&with_byte(4, 36)) == 28);
 }
 
-// The number under which bytes are refused as a wave file; 255 where they are one.
+// The error number for bytes that are no wave file, or 255 for a wave file.
 fn refusal(bytes: &[u8]) -> u8 {
     match Wave::read(bytes) {
         Ok(_) => 255,
@@ -108,7 +110,7 @@ fn refusal(bytes: &[u8]) -> u8 {
     }
 }
 
-// The smallest file with another byte at a place.
+// The smallest file with one byte replaced.
 fn with_byte(place: usize, byte: u8) -> [u8; 45] {
     let mut bytes = SMALLEST;
     if let Some(there) = bytes.get_mut(place) {
@@ -118,7 +120,7 @@ fn with_byte(place: usize, byte: u8) -> [u8; 45] {
 }
 
 // row: smallest_wave
-// a size of `data` past the end, a format that is not PCM, frames of two bytes
+// A size of `data` past the end, a format other than PCM, and frames of two bytes.
 #[test]
 fn refuses_the_smallest_with_another_byte(rt: HostRuntime) {
     for (place, byte, number) in [(40, 2, 28), (20, 3, 31), (32, 2, 30)] {
@@ -138,7 +140,7 @@ fn numbers_its_refusals(rt: HostRuntime) {
     }
 }
 
-// That of as many bytes of the smallest file.
+// The error number for the first `len` bytes of the smallest file.
 fn refusal_of_a_cut(len: usize) -> u8 {
     match len {
         0..=7 => 26,

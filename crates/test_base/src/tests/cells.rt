@@ -1,5 +1,5 @@
-//! Registers and presences. What is written last and what is live, and what joining and copying
-//! give, the clauses say of every register and presence, and the cases of `radio view` show.
+//! Registers and presences. The contracts define for all of them the latest value, the live tags
+//! and the results of joining and copying; the cases of `radio view` show them.
 
 mod presences;
 
@@ -12,7 +12,7 @@ const A: Replica = Replica(10);
 
 const B: Replica = Replica(11);
 
-// The value of the last of three writes, of which the greatest stands between the others.
+// The value of three joined writes, of which the greatest comes second.
 fn last_of(alloc: Global, [low, middle, high]: [Stamp; 3]) -> Option<char> {
     let mut others = Vec::new(alloc);
     others.push(Register::new(high, 'Y')).ok()?;
@@ -23,7 +23,7 @@ fn last_of(alloc: Global, [low, middle, high]: [Stamp; 3]) -> Option<char> {
     }
 }
 
-// What a write has once another one is joined to it.
+// The value of a register after another one is joined to it.
 fn joined(mut register: Register<char>, other: Register<char>) -> Option<char> {
     register.join(other).ok()?;
     Some(register.into_value())

@@ -1,16 +1,15 @@
-//! Digests of several messages at once: that they are those of FIPS 180-2 where there is memory,
-//! and that each growth is refused. That each message has its own digest, however long the others
-//! are, a clause says.
+//! Digests of several messages at once: they are those of FIPS 180-2, and each allocation fails in
+//! turn. A contract says that the digest of a message does not depend on the others.
 
 use base_sha256::digests_of;
 use std::alloc::{AllocError, Allocator, Global};
 use std::test::Fail;
 use test_alloc::Refusing;
 
-// The vector of FIPS 180-2, appendix B.1.
+// The test vector of FIPS 180-2, appendix B.1.
 const ABC: &[u8] = b"\xba\x78\x16\xbf\x8f\x01\xcf\xea\x41\x41\x40\xde\x5d\xae\x22\x23";
 
-// How many of five digests begin so: four messages in a lane each, and one alone.
+// How many of five digests begin like this: those of four messages in parallel, and one alone.
 fn hashes<M: Allocator + Clone>(memory: M) -> Result<usize, AllocError> {
     let digests = digests_of(memory, &[b"abc", b"abc", b"abc", b"abc", b"abc"])?;
     let mut count: usize = 0;
@@ -22,7 +21,7 @@ fn hashes<M: Allocator + Clone>(memory: M) -> Result<usize, AllocError> {
     Ok(count)
 }
 
-// The same where one growth is refused, and whether one was.
+// The result if one allocation fails, and whether it failed.
 fn hashes_at(alloc: Global, at: u64) -> (Result<usize, AllocError>, bool) {
     let memory = Refusing::new(alloc, at);
     let count = hashes(&memory);

@@ -1,5 +1,5 @@
-//! Which span is on top where, worked out by hand, and each growth refused in turn. What the
-//! segments of spans are, a clause says of all spans.
+//! Which span is on top at a frame, worked out by hand; and each allocation fails in turn. A
+//! contract defines the segments of all spans.
 
 ghost use Rattle.std.specs.Prelude.{◌≡◌, ◌≢◌, ◌<◌, ℕ, length, IsTrue};
 ghost use Rattle.mt_overlap.specs.Overlap.{span_at, PlacesDiffer};
@@ -12,7 +12,7 @@ use std::alloc::{Allocator, Global};
 use std::test::Fail;
 use test_alloc::Refusing;
 
-// The place of the span of an index.
+// The place of the span with this index.
 fn place_at(spans: &[Span], which: usize) -> Stamp
     requires { which < length spans.now }
     ensures { result ≡ (span_at spans.now which).place }
@@ -20,7 +20,7 @@ fn place_at(spans: &[Span], which: usize) -> Stamp
     spans[which].place
 }
 
-// Whether no span before this one has its place.
+// Whether no span before this one has the same place.
 fn is_apart(spans: &[Span], which: usize) -> bool
     requires { which < length spans.now }
     ensures { IsTrue result → (k : ℕ) → k < which → (span_at spans.now k).place ≢
@@ -35,7 +35,7 @@ fn is_apart(spans: &[Span], which: usize) -> bool
     true
 }
 
-// Whether no two spans have one place.
+// Whether all spans have different places.
 fn differ(spans: &[Span]) -> bool
     ensures { IsTrue result → PlacesDiffer spans.now }
 {
@@ -47,7 +47,7 @@ fn differ(spans: &[Span]) -> bool
     true
 }
 
-// The segments of spans whose places differ; none of others.
+// The segments of spans with different places; none for other spans.
 fn segments_of<A: Allocator + Clone>(
     alloc: A,
     spans: &[Span],
@@ -64,7 +64,7 @@ fn span(clock: u64, start: u32, len: u32) -> Result<Span, Fail> {
     Ok(Span { place, start, len })
 }
 
-// How many segments spans have, where they are these.
+// The number of segments of these spans, if they are as given.
 fn count_of<A: Allocator + Clone>(
     memory: A,
     spans: &[Span],
@@ -83,7 +83,7 @@ fn segment(start: u64, end: u64, which: usize) -> Segment {
 }
 
 // row: covering_spans
-// one that lies over another; one on top throughout, one alone, and none
+// A span over another one; one on top throughout, a single one, and none.
 #[test]
 fn finds_the_span_on_top(rt: HostRuntime) -> Result<(), Fail> {
     let (low, high) = (span(5, 0, 10)?, span(6, 4, 3)?);
@@ -96,7 +96,7 @@ fn finds_the_span_on_top(rt: HostRuntime) -> Result<(), Fail> {
     Ok(())
 }
 
-// the last frames that a span can cover, and a span of no frame
+// The last frames that a span can cover, and a span without frames.
 #[test]
 fn finds_the_last_frames(rt: HostRuntime) -> Result<(), Fail> {
     let last = 4294967295;
@@ -109,7 +109,7 @@ fn finds_the_last_frames(rt: HostRuntime) -> Result<(), Fail> {
     Ok(())
 }
 
-// How many there are where one growth is refused, and whether one was.
+// The number of segments if one allocation fails, and whether it failed.
 fn count_at(alloc: Global, at: u64, spans: &[Span]) -> (Result<usize, OverlapFault>, bool) {
     let memory = Refusing::new(alloc, at);
     let count = match segments_of(&memory, spans) {

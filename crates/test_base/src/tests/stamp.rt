@@ -1,5 +1,5 @@
-//! What no clause says of stamps, their texts and lists: texts from outside, and what is left where
-//! an allocation fails.
+//! What no contract says of stamps, their texts and lists: texts from outside, and the state after
+//! a failing allocation.
 
 use mt_stamp::laws::{compare_dots, compare_stamps};
 use mt_stamp::{List, Replica, Stamp, StampFault};
@@ -77,7 +77,7 @@ fn reads_any_form_of_a_replica(rt: HostRuntime) {
     assert!(rt; Replica::read("zz") == Err(StampFault::BadText));
 }
 
-// What a list of three items is after one more was put in, if there was memory for it.
+// Whether an insertion into a list of three items fails, and whether the list is then as before.
 fn is_left(memory: &Refusing<Global>) -> Result<(bool, bool), AllocError> {
     let mut list = List::new(vec![in memory; 3, 1, 2]?);
     let is_refused = list.insert(0, 5).is_err();
@@ -93,7 +93,7 @@ fn refuses_the_allocation_of_a_list(rt: HostRuntime) -> Result<(), Fail> {
     Ok(())
 }
 
-// Whether a list and its copy are equal, if there was memory for the copy.
+// Whether a list and its copy are equal, if the copy could be allocated.
 fn is_copied(memory: &Refusing<Global>) -> Result<bool, AllocError> {
     let list = List::new(vec![in memory; 3, 1, 2]?);
     match list.clone() {
@@ -125,7 +125,7 @@ fn is_replica_text<M: Allocator>(memory: M) -> Result<bool, StampFault> {
     Ok(text.as_str() == TEN_TEXT)
 }
 
-// Whether both are where one growth of each is refused, and whether one was.
+// Whether both texts are right if one allocation fails, and whether it failed.
 fn stamp_text_at(alloc: Global, at: u64, stamp: Stamp) -> (Result<bool, StampFault>, bool) {
     let memory = Refusing::new(alloc, at);
     let is_text = is_text_of(&memory, stamp, GREATEST_TEXT);
@@ -178,8 +178,7 @@ fn refuses_each_allocation_of_a_replica_text(rt: HostRuntime) -> Result<(), Fail
     Err(Fail::from("each run met a refusal"))
 }
 
-// Whether a text is as it was after a refused growth, and has the stamp behind it after a granted
-// one.
+// Whether a text is unchanged after a failed allocation, and otherwise has the stamp appended.
 fn is_appended(memory: &Refusing<Global>, stamp: Stamp) -> Result<bool, AllocError> {
     let mut text = String::from_str(memory, "at ")?;
     let is_refused = stamp.append_text(&mut text).is_err() && text.as_str() == "at ";

@@ -1,5 +1,5 @@
-//! Maps by stamps, with each growth refused in turn. What is found and what is left, the clauses
-//! say of every map.
+//! Maps by stamp. Each allocation fails in turn. The contracts define for every map what it
+//! contains.
 
 use base_stampmap::StampMap;
 use mt_stamp::{Replica, Stamp};
@@ -7,7 +7,7 @@ use std::alloc::{Allocator, Global};
 use test_alloc::Refusing;
 
 // Stamps of two replicas, as clock, replica and number: in order, after a greater number, after a
-// gap, far on, and of one replica and number under two clocks.
+// gap, far away, and with one dot under two clocks.
 const PARTS: [(u64, u128, u64); 9] = [
     (1, 10, 1),
     (2, 11, 1),
@@ -24,7 +24,7 @@ fn stamp_of(parts: (u64, u128, u64)) -> Option<Stamp> {
     Stamp::new(parts.0, Replica(parts.1), parts.2).ok()
 }
 
-// Puts a value in under a stamp that has none.
+// Inserts a value under a stamp that has none.
 fn put<M: Allocator + Clone>(
     map: &mut StampMap<usize, M>,
     stamp: Stamp,
@@ -36,7 +36,7 @@ fn put<M: Allocator + Clone>(
     }
 }
 
-// How many stamps have their index as their value once all are put in; none where an allocation
+// How many stamps have their index as their value after all are inserted; `None` if an allocation
 // fails.
 fn found<M: Allocator + Clone>(memory: M) -> Option<usize> {
     let mut map = StampMap::new(memory).ok()?;
@@ -52,14 +52,14 @@ fn found<M: Allocator + Clone>(memory: M) -> Option<usize> {
     Some(count)
 }
 
-// The same where one growth is refused, and whether one was.
+// The result if one allocation fails, and whether it failed.
 fn found_at(alloc: Global, at: u64) -> (Option<usize>, bool) {
     let memory = Refusing::new(alloc, at);
     let found = found(&memory);
     (found, memory.has_refused())
 }
 
-// How many growths are refused in turn, until all stamps are found.
+// How many allocations can fail before all stamps are found.
 fn refusals(alloc: Global) -> Option<u64> {
     for at in 0..40 {
         match found_at(alloc, at) {

@@ -1,10 +1,10 @@
-//! Which growth is refused and how many were asked for, which no clause can say.
+//! Which allocation fails and how many are counted; no contract can say this.
 
 use std::alloc::{AllocError, Allocator, Global};
 use std::test::Fail;
 use test_alloc::Refusing;
 
-// How many numbers a vector has that are pushed one at a time, so that it grows several times.
+// The length of a vector to which numbers are pushed one at a time, so that it grows several times.
 fn pushed<A: Allocator>(memory: A) -> Result<usize, AllocError> {
     let mut numbers = Vec::new(memory);
     for number in 0u64..40 {
@@ -13,14 +13,14 @@ fn pushed<A: Allocator>(memory: A) -> Result<usize, AllocError> {
     Ok(numbers.len())
 }
 
-// The same where one growth is refused, whether one was, and how many were asked for.
+// The result if one allocation fails, whether it failed, and the number of requested allocations.
 fn pushed_at(alloc: Global, at: u64) -> (Result<usize, AllocError>, bool, u64) {
     let memory = Refusing::new(alloc, at);
     let made = pushed(&memory);
     (made, memory.has_refused(), memory.allocations())
 }
 
-// Nothing is asked for after the refusal.
+// No allocation is requested after the failure.
 #[test]
 fn refuses_each_allocation_of_a_vector_in_turn(rt: HostRuntime) -> Result<(), Fail> {
     for at in 0..100 {

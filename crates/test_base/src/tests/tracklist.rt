@@ -1,5 +1,5 @@
-//! Lists of places. Where each goes, in whatever order they come, and what is refused, the clauses
-//! say of every list; here the worked examples run, and growths are refused.
+//! Lists of places. The contracts define the order of every list and which places are rejected.
+//! Here the worked examples run, and allocations fail.
 
 use mt_stamp::{Replica, Stamp, StampFault};
 use mt_tracklist::{Placed, TrackList, TrackListFault, is_newer};
@@ -20,7 +20,7 @@ fn at_head(place: Stamp) -> Placed {
     }
 }
 
-// Puts a place in where it is newer than what it is put after.
+// Inserts a place if it is newer than the one that it follows.
 fn put<M: Allocator>(list: &mut TrackList<M>, placed: Placed) -> Result<(), TrackListFault> {
     if !is_newer(placed.place, placed.after) {
         return Ok(());
@@ -44,7 +44,7 @@ fn after(place: Stamp, reference: Stamp) -> Placed {
     }
 }
 
-// Whether a list is that of the places of these numbers, in their order.
+// Whether a list has the places with these indexes, in this order.
 fn is_order<M: Allocator>(list: &TrackList<M>, places: &[Placed], order: &[usize]) -> bool {
     for index in 0..order.len() {
         let Some(placed) = places.get(order[index]) else {
@@ -58,7 +58,7 @@ fn is_order<M: Allocator>(list: &TrackList<M>, places: &[Placed], order: &[usize
     list.order().len() == order.len()
 }
 
-// Puts the places of these numbers into a list, in their order.
+// Inserts the places with these indexes into a list, in this order.
 fn put_all<M: Allocator>(
     list: &mut TrackList<M>,
     places: &[Placed],
@@ -72,8 +72,8 @@ fn put_all<M: Allocator>(
     Ok(())
 }
 
-// Whether places that are put into a list in the first order stand in the second, and its copy is
-// equal; or the first refusal.
+// Whether places inserted in the first order end up in the second order, and the copy of the list
+// is equal; or the first error.
 fn come_to(
     alloc: Global,
     places: &[Placed],
@@ -93,7 +93,7 @@ fn four_places() -> Result<[Placed; 4], StampFault> {
     Ok([at_head(a), after(x, a), after(y, a), at_head(z)])
 }
 
-// The orders of them in which a comes before x and y.
+// The orders of insertion in which a comes before x and y.
 const ORDERS: [[usize; 4]; 8] = [
     [0, 1, 2, 3],
     [0, 1, 3, 2],
@@ -136,8 +136,8 @@ fn orders_places_below_others(rt: HostRuntime) -> Result<(), Fail> {
     Ok(())
 }
 
-// What a put of the first place is answered, how many places there are then, and whether an
-// allocation failed.
+// The result of inserting the first place, the number of places after it, and whether an allocation
+// failed.
 fn put_at(alloc: Global, at: u64, place: Stamp) -> (Result<(), TrackListFault>, usize, bool) {
     let memory = Refusing::new(alloc, at);
     let mut list = TrackList::new(&memory);
@@ -154,7 +154,7 @@ fn is_unchanged_where_a_allocation_is_refused(rt: HostRuntime) -> Result<(), Fai
     Ok(())
 }
 
-// Whether a list of one place and its copy were made, and are equal.
+// Whether a list of one place and its copy could be made, and are equal.
 fn is_copied<M: Allocator + Clone>(memory: M, place: Stamp) -> Result<bool, TrackListFault> {
     let mut list = TrackList::new(memory);
     put(&mut list, at_head(place))?;
@@ -162,7 +162,7 @@ fn is_copied<M: Allocator + Clone>(memory: M, place: Stamp) -> Result<bool, Trac
     Ok(copy == list)
 }
 
-// The same where one growth is refused.
+// The result if one allocation fails.
 fn copied_at(alloc: Global, at: u64, place: Stamp) -> Result<bool, TrackListFault> {
     let memory = Refusing::new(alloc, at);
     is_copied(&memory, place)

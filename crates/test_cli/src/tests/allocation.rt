@@ -1,5 +1,5 @@
-//! Each growth of a command refused in turn, until a run meets no refusal; and that no count takes
-//! memory.
+//! Each allocation of a command fails in turn, until a run needs no more; and no count causes an
+//! allocation.
 use super::calls::{CALLS, Call, inputs_of, is_front, length_of};
 use super::running::run;
 use super::texts::{ONE_FRAME, PROMISING, SMALLEST};
@@ -8,11 +8,11 @@ use mt_opcodec::Latch;
 use std::alloc::Global;
 use test_kit::Refusing;
 
-// More growths than a command asks for.
+// More allocations than any command needs.
 const GROWTHS: u64 = 400;
 
-// Whether a command writes all, or fails with nothing written where an allocation does; a command
-// that can do without it may go on.
+// Whether a command writes everything, or fails without output if an allocation fails. A command
+// that does not need that allocation may go on.
 fn is_right(
     answer: Option<Result<(), CliFault>>,
     call: Call,
@@ -29,7 +29,7 @@ fn is_right(
     answer == Some(Ok(())) && is_front(call, &written, length_of(call))
 }
 
-// Whether it does so where this growth is refused, and whether one was.
+// Whether this holds if one allocation fails, and whether it failed.
 fn refused_at(alloc: Global, at: u64, call: Call) -> (bool, bool) {
     let memory = Refusing::new(alloc, at);
     let mut output = Latch::new(Vec::new(alloc));
@@ -38,7 +38,7 @@ fn refused_at(alloc: Global, at: u64, call: Call) -> (bool, bool) {
     (is_right(answer, call, output, refused), refused)
 }
 
-// How many growths are refused; none where one is answered otherwise.
+// The number of failing allocations; `None` if one of them gives another result.
 fn refusals(alloc: Global, call: Call) -> Option<u64> {
     for at in 0..GROWTHS {
         match refused_at(alloc, at, call) {
@@ -61,7 +61,7 @@ fn refuses_each_allocation(rt: HostRuntime) {
     }
 }
 
-// How many growths it takes to tell of a file of one frame and no cue point.
+// The number of allocations for the report on a file of one frame without cue points.
 fn allocs_of(alloc: Global, file: &[u8]) -> Option<u64> {
     let memory = Refusing::new(alloc, u64::MAX);
     let mut output = Latch::new(Vec::new(alloc));

@@ -1,4 +1,4 @@
-//! The commands, one call of each, with what each reads and what it writes.
+//! The commands, with one call of each, its input and its output.
 use super::texts::{
     ANSWER, BOTH, COMPARED, COMPARED_FIELDS, COMPARED_VIEWS, DRAWN_VOICE, EDITED, EMPTY, FILE,
     FOUND_CLIP, FOUND_MARKER, HAS_NEWS, HAS_NOTHING, LAID, LATE, LISTED, LOUD_VOICE, NEWS, OBJECTS,
@@ -6,8 +6,8 @@ use super::texts::{
 };
 use test_kit::RECORDING;
 
-/// A command. Of the two that also tell of what they write, the output is that of the log, or
-/// `told` the other one.
+/// A command. Two of them also print a report on their output: their output is the log, or with
+/// `told` the report.
 #[derive(Clone, Copy, PartialEq, Eq)]
 pub(crate) enum Call {
     ViewLog,
@@ -70,7 +70,7 @@ pub(crate) const CALLS: [Call; 27] = [
 
 const NOTHING: &[u8] = b"";
 
-/// What it reads.
+/// Its inputs.
 pub(crate) fn inputs_of(call: Call) -> (&'static [u8], &'static [u8]) {
     match call {
         Call::ViewLog | Call::ViewObjects | Call::ListLog | Call::FindMarker | Call::Revert => (
@@ -97,7 +97,7 @@ pub(crate) fn inputs_of(call: Call) -> (&'static [u8], &'static [u8]) {
     }
 }
 
-// What it writes; `Bounce` writes the file.
+// Its output; that of `Bounce` is the file.
 fn output_of(call: Call) -> &'static [u8] {
     match call {
         Call::ViewLog | Call::ViewLogs => SHOWN,
@@ -137,7 +137,7 @@ fn is_front_of_file(bytes: &[u8]) -> bool {
     rest.is_empty()
 }
 
-/// How many bytes it writes.
+/// The length of its output.
 pub(crate) fn length_of(call: Call) -> usize {
     match call {
         Call::Bounce => 692,
@@ -145,7 +145,7 @@ pub(crate) fn length_of(call: Call) -> usize {
     }
 }
 
-/// Whether these are the first so many bytes that it writes.
+/// Whether these are the first `count` bytes of its output.
 pub(crate) fn is_front(call: Call, bytes: &[u8], count: usize) -> bool {
     let begins = match call {
         Call::Bounce => is_front_of_file(bytes),

@@ -1,5 +1,5 @@
-//! The program's commands, run by their words over the files of a temporary folder. The cases of
-//! the command line have more of each.
+//! The program's commands, run with their arguments over the files of a temporary folder. The cases
+//! of the command line have more of each.
 
 pub(crate) mod logs;
 mod renders;
@@ -16,16 +16,16 @@ use std::net::{TcpListener, TcpStream};
 use std::path::PathBuf;
 use std::{env, fs, process};
 
-/// A run of the program: its words, with a space between two, and what comes of it.
+/// A run of the program: its arguments, separated by spaces, and its result.
 #[derive(Clone, Copy)]
 pub(crate) enum Run {
-    /// It is done and prints this.
+    /// It succeeds and prints this.
     Prints(&'static str, &'static str),
-    /// It is done, writes this file, and prints the last text.
+    /// It succeeds, writes this file, and prints the last text.
     Makes(&'static str, (&'static str, &'static [u8]), &'static str),
-    /// It is refused with this line on standard error.
+    /// It fails with this line on standard error.
     Refused(&'static str, &'static str),
-    /// Its words do not parse, and standard error has this text.
+    /// Its arguments cannot be parsed, and this text is on standard error.
     Mistaken(&'static str, &'static str),
 }
 
@@ -45,8 +45,8 @@ fn list_of(alloc: Global, words: &str) -> Result<Vec<String>> {
     Ok(list)
 }
 
-// Whether the words, run over an input, are answered with this status, what is printed is the first
-// text, and what stands on standard error is the second.
+// Whether the arguments, with an input, give this status, the first text on standard output and the
+// second on standard error.
 fn is_answered(
     rt: &HostRuntime,
     (words, input): (&str, &[u8]),
@@ -69,7 +69,7 @@ fn has_file(rt: &HostRuntime, (name, bytes): (&str, &[u8])) -> Result<bool> {
     Ok(fs::read(rt, name)?.as_slice() == bytes)
 }
 
-// Whether a run ends, prints and writes as it says.
+// Whether a run ends, prints and writes as given.
 fn is_so(rt: &HostRuntime, input: &[u8], run: Run) -> Result<bool> {
     match run {
         Run::Prints(words, text) => is_answered(rt, (words, input), 0, (text, "")),
@@ -89,7 +89,7 @@ fn put_files(rt: &HostRuntime, files: &[(&str, &[u8])]) -> Result<()> {
     Ok(())
 }
 
-// Makes a new temporary folder, in which this process goes on, and returns its path.
+// Makes a new temporary folder, makes it the current one, and returns its path.
 fn enter_folder(rt: &HostRuntime) -> Result<PathBuf> {
     let id = process::id(rt.process());
     let name = format!(in rt.alloc(); "mt_cli_tests-{id}")?;
@@ -99,7 +99,7 @@ fn enter_folder(rt: &HostRuntime) -> Result<PathBuf> {
     Ok(folder)
 }
 
-// Whether each run of a story, one after another in this folder, ends as it says.
+// Whether each run of a story ends as given, one after another in this folder.
 fn come_to_here(rt: &HostRuntime, story: &Story) -> Result<bool> {
     put_files(rt, story.files)?;
     for run in story.runs {
@@ -110,7 +110,7 @@ fn come_to_here(rt: &HostRuntime, story: &Story) -> Result<bool> {
     Ok(true)
 }
 
-// Whether they do in a new temporary folder, which is removed.
+// Whether they do so in a new temporary folder, which is removed at the end.
 fn come_to(rt: &HostRuntime, story: &Story) -> Result<bool> {
     let folder = enter_folder(rt)?;
     let answer = come_to_here(rt, story);

@@ -1,4 +1,4 @@
-//! Each read and each write of a command failing in turn, byte by byte.
+//! Each read and each write of a command fails in turn, byte by byte.
 use super::calls::{CALLS, Call, inputs_of, is_front, length_of};
 use super::running::run;
 use mt_cli::CliFault;
@@ -9,8 +9,8 @@ use test_kit::{ChokedWriter, FailingWriter, SlowReader};
 
 const NEVER: usize = usize::MAX;
 
-// Whether a command is refused with nothing written where the read of this number fails, of its
-// first input or of its second.
+// Whether a command fails without output if the read with this number fails, of its first input or
+// its second.
 fn is_unread(alloc: Global, call: Call, which: usize, at: usize) -> bool {
     let (first, second) = inputs_of(call);
     let (first_fails, second_fails) = if which == 0 { (at, NEVER) } else { (NEVER, at) };
@@ -23,7 +23,8 @@ fn is_unread(alloc: Global, call: Call, which: usize, at: usize) -> bool {
     answer == Some(Err(CliFault::Read(which))) && output.into_inner().is_empty()
 }
 
-// Whether it is at each read of an input of so many bytes, and at that of its end.
+// Whether it does so at each read of an input with this number of bytes, and at the read of its
+// end.
 fn is_unread_at_each(alloc: Global, call: Call, which: usize, length: usize) -> bool {
     for at in 0..length {
         if !is_unread(alloc, call, which, at) {
@@ -33,8 +34,8 @@ fn is_unread_at_each(alloc: Global, call: Call, which: usize, length: usize) -> 
     is_unread(alloc, call, which, length)
 }
 
-// Whether it is so of each of its inputs. The stream of a conversation is no input: test_editor
-// cuts it.
+// Whether it does so for each of its inputs. The stream of a conversation is not an input:
+// test_editor cuts it.
 fn is_unread_of_each(alloc: Global, call: Call) -> bool {
     let (first, second) = inputs_of(call);
     let of_first = first.is_empty() || is_unread_at_each(alloc, call, 0, first.len());
@@ -52,7 +53,7 @@ fn each_read_fails_in_turn(rt: HostRuntime) {
     }
 }
 
-// What it is refused as where its output fails.
+// The error if the output fails.
 fn refusal_of(call: Call) -> CliFault {
     match call {
         Call::Pull { told: true } | Call::Edit { told: true } => CliFault::Print,
@@ -60,7 +61,7 @@ fn refusal_of(call: Call) -> CliFault {
     }
 }
 
-// Whether it writes byte by byte up to the write of this number, which fails, or all.
+// Whether it writes byte by byte up to the write with this number, which fails, or everything.
 fn is_cut(alloc: Global, call: Call, good: usize) -> bool {
     let mut output = Latch::new(FailingWriter::new(alloc, good, ErrorKind::Other));
     let answer = run(alloc, alloc, call, inputs_of(call), &mut output);
@@ -73,7 +74,7 @@ fn is_cut(alloc: Global, call: Call, good: usize) -> bool {
     is_answered && is_front(call, output.into_inner().written(), good)
 }
 
-// The same of each write, and of a writer that takes no byte.
+// Whether it does so at each write, and with a writer that takes no bytes.
 fn is_cut_at_each(alloc: Global, call: Call) -> bool {
     for good in 0..length_of(call).saturating_add(1) {
         if !is_cut(alloc, call, good) {

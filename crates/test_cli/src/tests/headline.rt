@@ -1,5 +1,5 @@
-//! Editors that have taken the same operations, in whatever order and however often, show one
-//! session, print one text and render one file.
+//! Editors that have applied the same operations, in any order and any number of times, show the
+//! same session, print the same text and render the same file.
 
 use mt_cuewrite::{Head, bounce};
 use mt_op::{Digest, Op};
@@ -13,7 +13,7 @@ use std::alloc::Global;
 use std::test::Fail;
 use test_kit::{A, B, RECORDING};
 
-// Puts the text and the file of a session into an output, and tells whether both were written.
+// Writes the text and the file of a session to an output, and returns whether both were written.
 fn put_mix(
     alloc: Global,
     session: &Session,
@@ -36,7 +36,7 @@ fn catalogue_of(alloc: Global) -> Option<Catalogue<'static>> {
     }
 }
 
-// Puts both, the file over the recording.
+// Writes both, where the file plays the recording.
 fn put_programme(alloc: Global, session: &Session, output: &mut Latch<Vec<u8>>) -> Option<bool> {
     let format = Format::new(48000, 24, 1).ok()?;
     let sources = catalogue_of(alloc)?;
@@ -46,7 +46,7 @@ fn put_programme(alloc: Global, session: &Session, output: &mut Latch<Vec<u8>>) 
     }
 }
 
-// The digest of what an editor gives out: its session's text, and then its file.
+// The digest of an editor's output: the text of its session, and then its file.
 fn given_out(alloc: Global, editor: &Editor) -> Option<Digest> {
     let session = editor.session()?;
     let mut output = Latch::new(Vec::new(alloc));
@@ -56,7 +56,7 @@ fn given_out(alloc: Global, editor: &Editor) -> Option<Digest> {
     }
 }
 
-// Whether two editors show one session and give out the same bytes.
+// Whether two editors have the same session and the same output.
 fn agree(alloc: Global, left: &Editor, right: &Editor) -> bool {
     let bytes = given_out(alloc, left);
     bytes.is_some()
@@ -65,7 +65,7 @@ fn agree(alloc: Global, left: &Editor, right: &Editor) -> bool {
         && left == right
 }
 
-// Takes an operation twice.
+// Applies an operation twice.
 fn take_twice(editor: &mut Editor, op: Op) -> bool {
     let Ok(copy) = op.try_clone() else {
         return false;
@@ -73,8 +73,8 @@ fn take_twice(editor: &mut Editor, op: Op) -> bool {
     editor.take(op).is_ok() && editor.take(copy).is_ok()
 }
 
-// Takes operations in the order of this number, each twice. The numbers below the product of 1 to
-// their count stand for all their orders.
+// Applies operations in the order with this number, each twice. The numbers below n! stand for all
+// orders of n operations.
 fn take_in_order(editor: &mut Editor, mut ops: Vec<Op>, number: usize) -> bool {
     let mut rest = number;
     let mut taken = true;
@@ -90,8 +90,8 @@ fn take_in_order(editor: &mut Editor, mut ops: Vec<Op>, number: usize) -> bool {
     taken
 }
 
-// Takes all operations but the last two in the order of this number, and then the last two, each
-// twice.
+// Applies all operations but the last two in the order with this number, and then the last two,
+// each twice.
 fn take_all(editor: &mut Editor, mut ops: Vec<Op>, number: usize) -> bool {
     let (Some(last), Some(before)) = (ops.pop(), ops.pop()) else {
         return false;
@@ -107,7 +107,7 @@ fn log_after(alloc: Global, editor: &mut Editor, script: &[u8]) -> Option<Log> {
     editor.log()?.try_clone().ok()
 }
 
-// The log of an editor that went on with a log by a script.
+// The log of an editor that runs a script on a log.
 fn went_on(alloc: Global, name: Replica, log: Log, script: &[u8]) -> Option<Log> {
     match Editor::from_log(alloc, name, log) {
         Ok(mut editor) => log_after(alloc, &mut editor, script),
@@ -115,8 +115,8 @@ fn went_on(alloc: Global, name: Replica, log: Log, script: &[u8]) -> Option<Log>
     }
 }
 
-// The union of the logs of two editors: A begins with a script, B goes on with a copy by another,
-// and A by a third.
+// The union of the logs of two editors: A runs the first script, B the second on a copy of A's log,
+// and A the third.
 fn union_of(alloc: Global, scripts: [&[u8]; 3]) -> Option<Log> {
     let first = went_on(alloc, A, Log::new(alloc), scripts[0])?;
     let copy = first.try_clone().ok()?;
@@ -135,14 +135,14 @@ fn ops_of(alloc: Global, log: &Log) -> Option<Vec<Op>> {
     Some(ops)
 }
 
-// Whether an editor agrees with another once it has taken the operations of that one's log in the
-// order of this number, each twice.
+// Whether an editor agrees with another one after it has applied the operations of that one's log
+// in the order with this number, each twice.
 fn agrees_after(alloc: Global, editor: &mut Editor, whole: &Editor, number: usize) -> Option<bool> {
     let ops = ops_of(alloc, whole.log()?)?;
     Some(take_all(editor, ops, number) && agree(alloc, whole, editor))
 }
 
-// The same of a newcomer.
+// Whether a new editor does so.
 fn agrees_in_order(alloc: Global, whole: &Editor, number: usize) -> Option<bool> {
     match Editor::from_log(alloc, B, Log::new(alloc)) {
         Ok(mut editor) => agrees_after(alloc, &mut editor, whole, number),
@@ -150,8 +150,8 @@ fn agrees_in_order(alloc: Global, whole: &Editor, number: usize) -> Option<bool>
     }
 }
 
-// How many operations an editor's log has, where newcomers agree with the editor in each of so many
-// orders.
+// The number of operations in an editor's log, if new editors agree with it in each of the first
+// `orders` orders.
 fn agreements_with(alloc: Global, whole: &Editor, orders: usize) -> Option<usize> {
     for number in 0..orders {
         if agrees_in_order(alloc, whole, number) != Some(true) {
@@ -161,7 +161,7 @@ fn agreements_with(alloc: Global, whole: &Editor, orders: usize) -> Option<usize
     Some(whole.log()?.len())
 }
 
-// The same of an editor of the union of two editors' logs.
+// The number of operations of the union of two editors' logs, if new editors agree with its editor.
 fn agreements(alloc: Global, scripts: [&[u8]; 3], orders: usize) -> Option<usize> {
     match Editor::from_log(alloc, B, union_of(alloc, scripts)?) {
         Ok(whole) => agreements_with(alloc, &whole, orders),
@@ -169,15 +169,18 @@ fn agreements(alloc: Global, scripts: [&[u8]; 3], orders: usize) -> Option<usize
     }
 }
 
-// Each script of B ends with three_sample_file's track and clip: they are the last two operations
-// of the union.
+// Each script of B ends with the track and the clip of three_sample_file: they are the last two
+// operations of the union.
 
 // row: same_set_same_file, four_places
 #[test]
 fn agree_on_four_places(rt: HostRuntime) {
     let scripts: [&[u8]; 3] = [
         b"add-track head a\n",
-        b"add-track 1.1.00000000-0000-0000-0000-00000000000a y\nadd-track head z\nadd-track head Voice\nadd-clip cc0a0e0651f6e9e304442665437ab61ac3b5302b51bb4a161b144bf9985dfb79 $3 0 0 3\n",
+        b"add-track 1.1.00000000-0000-0000-0000-00000000000a y\n\
+          add-track head z\n\
+          add-track head Voice\n\
+          add-clip cc0a0e0651f6e9e304442665437ab61ac3b5302b51bb4a161b144bf9985dfb79 $3 0 0 3\n",
         b"add-track 1.1.00000000-0000-0000-0000-00000000000a x\n",
     ];
     assert!(rt; agreements(rt.alloc(), scripts, 24) == Some(6));
@@ -188,8 +191,12 @@ fn agree_on_four_places(rt: HostRuntime) {
 fn agree_on_moved_tracks(rt: HostRuntime) {
     let scripts: [&[u8]; 3] = [
         b"add-track head p\nadd-track $1 q\nadd-track $2 r\n",
-        b"move-track 1.1.00000000-0000-0000-0000-00000000000a 3.3.00000000-0000-0000-0000-00000000000a\nadd-track head Voice\nadd-clip cc0a0e0651f6e9e304442665437ab61ac3b5302b51bb4a161b144bf9985dfb79 $2 0 0 3\n",
-        b"move-track 1.1.00000000-0000-0000-0000-00000000000a 2.2.00000000-0000-0000-0000-00000000000a\n",
+        b"move-track 1.1.00000000-0000-0000-0000-00000000000a \
+          3.3.00000000-0000-0000-0000-00000000000a\n\
+          add-track head Voice\n\
+          add-clip cc0a0e0651f6e9e304442665437ab61ac3b5302b51bb4a161b144bf9985dfb79 $2 0 0 3\n",
+        b"move-track 1.1.00000000-0000-0000-0000-00000000000a \
+          2.2.00000000-0000-0000-0000-00000000000a\n",
     ];
     assert!(rt; agreements(rt.alloc(), scripts, 120) == Some(7));
 }
@@ -199,7 +206,9 @@ fn agree_on_moved_tracks(rt: HostRuntime) {
 fn agree_on_a_removed_and_restored_marker(rt: HostRuntime) {
     let scripts: [&[u8]; 3] = [
         b"add-marker 1 News\n",
-        b"restore 1.1.00000000-0000-0000-0000-00000000000a\nadd-track head Voice\nadd-clip cc0a0e0651f6e9e304442665437ab61ac3b5302b51bb4a161b144bf9985dfb79 $2 0 0 3\n",
+        b"restore 1.1.00000000-0000-0000-0000-00000000000a\n\
+          add-track head Voice\n\
+          add-clip cc0a0e0651f6e9e304442665437ab61ac3b5302b51bb4a161b144bf9985dfb79 $2 0 0 3\n",
         b"remove 1.1.00000000-0000-0000-0000-00000000000a\n",
     ];
     assert!(rt; agreements(rt.alloc(), scripts, 6) == Some(5));
@@ -209,14 +218,19 @@ fn agree_on_a_removed_and_restored_marker(rt: HostRuntime) {
 #[test]
 fn agree_on_a_moved_and_removed_clip(rt: HostRuntime) {
     let scripts: [&[u8]; 3] = [
-        b"add-track head Jingle\nadd-clip cc0a0e0651f6e9e304442665437ab61ac3b5302b51bb4a161b144bf9985dfb79 $1 0 0 3\n",
-        b"move-clip 2.2.00000000-0000-0000-0000-00000000000a 1.1.00000000-0000-0000-0000-00000000000a 70\nadd-track head Voice\nadd-clip cc0a0e0651f6e9e304442665437ab61ac3b5302b51bb4a161b144bf9985dfb79 $2 0 0 3\n",
-        b"remove 2.2.00000000-0000-0000-0000-00000000000a\nrestore 2.2.00000000-0000-0000-0000-00000000000a\n",
+        b"add-track head Jingle\n\
+          add-clip cc0a0e0651f6e9e304442665437ab61ac3b5302b51bb4a161b144bf9985dfb79 $1 0 0 3\n",
+        b"move-clip 2.2.00000000-0000-0000-0000-00000000000a \
+          1.1.00000000-0000-0000-0000-00000000000a 70\n\
+          add-track head Voice\n\
+          add-clip cc0a0e0651f6e9e304442665437ab61ac3b5302b51bb4a161b144bf9985dfb79 $2 0 0 3\n",
+        b"remove 2.2.00000000-0000-0000-0000-00000000000a\n\
+          restore 2.2.00000000-0000-0000-0000-00000000000a\n",
     ];
     assert!(rt; agreements(rt.alloc(), scripts, 120) == Some(7));
 }
 
-// Whether an editor that makes a change agrees with another that makes it by a script.
+// Whether an editor that makes a change agrees with another one that makes it by a script.
 fn edits_as(
     alloc: Global,
     editor: &mut Editor,
@@ -226,7 +240,7 @@ fn edits_as(
     editor.edit(change).is_ok() && run(alloc, other, script).is_ok() && agree(alloc, editor, other)
 }
 
-// The same of an editor and its copy.
+// Whether an editor and its copy do so.
 fn edits_as_its_copy(
     alloc: Global,
     editor: &mut Editor,
@@ -239,7 +253,7 @@ fn edits_as_its_copy(
     }
 }
 
-// The same of an editor of a log.
+// Whether an editor of a log does so.
 fn edits_as_scripted(alloc: Global, log: Log, change: &Change, script: &[u8]) -> Option<bool> {
     match Editor::from_log(alloc, A, log) {
         Ok(mut editor) => edits_as_its_copy(alloc, &mut editor, change, script),
@@ -247,13 +261,15 @@ fn edits_as_scripted(alloc: Global, log: Log, change: &Change, script: &[u8]) ->
     }
 }
 
-// three_sample_file, moved by `edit`
+// three_sample_file, changed by `edit`
 fn moves_as_scripted(alloc: Global, change: &Change) -> Option<bool> {
     let script =
-        b"add-track head Voice\nadd-clip cc0a0e0651f6e9e304442665437ab61ac3b5302b51bb4a161b144bf9985dfb79 $1 0 0 3\n";
+        b"add-track head Voice\n\
+          add-clip cc0a0e0651f6e9e304442665437ab61ac3b5302b51bb4a161b144bf9985dfb79 $1 0 0 3\n";
     let log = went_on(alloc, A, Log::new(alloc), script)?;
     let moved =
-        b"move-clip 2.2.00000000-0000-0000-0000-00000000000a 1.1.00000000-0000-0000-0000-00000000000a 70\n";
+        b"move-clip 2.2.00000000-0000-0000-0000-00000000000a \
+          1.1.00000000-0000-0000-0000-00000000000a 70\n";
     edits_as_scripted(alloc, log, change, moved)
 }
 

@@ -1,4 +1,4 @@
-//! The commands run, whatever the memory, the readers and the writer are.
+//! The commands run with any allocator, readers and writer.
 ghost use Rattle.std.specs.Prelude.{IfSome, length, ◌≡◌};
 
 use super::calls::Call;
@@ -30,7 +30,7 @@ fn one<R: Read + Drop>(alloc: Global, input: R) -> Option<Vec<Latch<R>>>
     Some(inputs)
 }
 
-// Two of them.
+// Two readers.
 fn two<R: Read + Drop>(alloc: Global, both: (R, R)) -> Option<Vec<Latch<R>>>
     ensures { IfSome result (λ inputs. length inputs.items ≡ 2) }
 {
@@ -76,7 +76,7 @@ fn draw_one<M: Allocator + Clone, R: Read, W: Write>(
     draw_logs(memory, &text, inputs, output)
 }
 
-// Commands that write one text of some logs.
+// Commands that write one text about some logs.
 fn run_on_logs<M: Allocator + Clone, R: Read + Drop, W: Write>(
     memory: M,
     alloc: Global,
@@ -93,7 +93,7 @@ fn run_on_logs<M: Allocator + Clone, R: Read + Drop, W: Write>(
     })
 }
 
-// Times, and an object for each line.
+// Times, and a JSON object for each line.
 fn objects(alloc: Global) -> TextOptions {
     TextOptions {
         rate: Some(48_000),
@@ -101,7 +101,7 @@ fn objects(alloc: Global) -> TextOptions {
     }
 }
 
-// Those of one log.
+// Commands on one log.
 fn run_on_log<M: Allocator + Clone, R: Read + Drop, W: Write>(
     memory: M,
     alloc: Global,
@@ -140,7 +140,7 @@ fn run_on_log<M: Allocator + Clone, R: Read + Drop, W: Write>(
     }
 }
 
-// Those of a log and what is carried by hand, or another log.
+// Commands on a log and a message, or on two logs.
 fn run_by_hand<M: Allocator + Clone, R: Read + Drop, W: Write>(
     memory: M,
     alloc: Global,
@@ -181,8 +181,8 @@ fn run_by_hand<M: Allocator + Clone, R: Read + Drop, W: Write>(
     }
 }
 
-// An answer, where the output beside that which is looked at has all of its text, or nothing where
-// it is the last or all is refused; else none.
+// The result, if the second output is right: it has its whole text after success or if only the
+// report fails, and nothing after another error. Otherwise `None`.
 fn beside(
     answer: Result<(), CliFault>,
     other: Latch<Vec<u8>>,
@@ -230,8 +230,8 @@ fn pull<M: Allocator + Clone, R: Read + Drop, W: Write>(
     beside(answer, other, PULLED)
 }
 
-// Lets a log meet an editor who has nothing, and gives the answer, where it has said what it has
-// and sent what that one lacks, or a front of that where it is refused.
+// Runs a log against an editor without operations, and returns the result if the log's side has
+// sent its Have and the missing operations, or a prefix of these after an error.
 fn meet<M: Allocator + Clone, R: Read + Drop, W: Write>(
     memory: M,
     alloc: Global,
@@ -240,7 +240,7 @@ fn meet<M: Allocator + Clone, R: Read + Drop, W: Write>(
     output: &mut Latch<W>,
 ) -> Option<Result<(), CliFault>> {
     let (mut reader, mut writer) = (Latch::new(reader), Latch::new(Vec::new(alloc)));
-    // for the proof: that the log lies there as one
+    // for the proof: that the log is stored as one
     let Ok(()) = growing.compact() else {
         return None;
     };
@@ -306,7 +306,7 @@ fn lay<M: Allocator + Clone, R: Read + Drop, W: Write>(
     Some(lay_files(memory, &laying, &mut files, output))
 }
 
-// Those of a log and its recording that are rendered, or checked before.
+// Commands on a log and its recording: rendering, and checking before.
 fn render<M: Allocator + Clone, R: Read + Drop, W: Write>(
     memory: M,
     alloc: Global,
@@ -332,7 +332,7 @@ fn render<M: Allocator + Clone, R: Read + Drop, W: Write>(
     Some(bounce_logs(memory, &mut logs, &mut sources, &head, format, output))
 }
 
-/// What it answers; none where what it writes beside the output is not right.
+/// The result; `None` if an additional output is wrong.
 pub(crate) fn run<M: Allocator + Copy, R: Read + Drop, W: Write>(
     memory: M,
     alloc: Global,

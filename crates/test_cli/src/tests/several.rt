@@ -1,4 +1,4 @@
-//! Logs that are merged, shown and rendered by the calls themselves.
+//! Logs that are merged, shown and rendered by calls of the library.
 
 use super::commands::logs::{ANOTHER, NEWS_LOG, ONE_CLIP, RETITLED, SPORT, UNION};
 use super::commands::waves::{THREE_FILE, THREE_SAMPLES};
@@ -19,7 +19,7 @@ fn readers(alloc: Global, texts: &[&'static [u8]]) -> Option<Vec<Latch<&'static 
     Some(inputs)
 }
 
-// Whether these bytes were written; else the refusal.
+// Whether these bytes were written, or the error.
 fn is_written(
     answer: Result<(), CliFault>,
     output: Latch<Vec<u8>>,
@@ -82,7 +82,7 @@ fn shows_the_session_of_no_log(rt: HostRuntime) {
     assert!(rt; shows_no_log(rt.alloc()) == Some(Ok(true)));
 }
 
-// What is answered where a log has no end, and whether nothing is written.
+// The result for a log without end, and whether nothing is written.
 fn shown_for_ever(alloc: Global) -> (Result<(), CliFault>, bool) {
     let mut inputs = [Latch::new(OneByteForEver::new())];
     let mut output = Latch::new(Vec::new(alloc));

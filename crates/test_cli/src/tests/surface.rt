@@ -1,6 +1,6 @@
-//! Calls each public call that programs make of the fifteen libraries, with its arguments and its
-//! result, so that the check fails where a name or an argument changes: a module for each library,
-//! and in it few functions. None of them runs.
+//! Calls each public function of the fifteen libraries that programs use, with its arguments and
+//! its result, so that the check fails when a name or an argument changes. Each library has a
+//! module with a few functions. None of them runs.
 pub mod bwfread;
 pub mod cells;
 pub mod cli;

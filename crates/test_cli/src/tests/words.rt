@@ -1,4 +1,4 @@
-//! Commands below another, in the manual page and in the completion scripts.
+//! Nested commands, in the manual page and in the completion scripts.
 
 use base_io::Latch;
 use cli_words::{Lists, Shell, Word, Words, put_page, put_script};
@@ -43,7 +43,7 @@ const ABOVE: [Words; 1] = [Words {
 
 const LISTS: Lists = [&ABOVE, &[], &[], &[]];
 
-// Whether each of these stands in a text, one behind another.
+// Whether these pieces are in a text, one after another.
 fn has_in_order(text: &[u8], pieces: &[&str]) -> bool {
     let Ok(text) = str::from_utf8(text) else {
         return false;
@@ -95,7 +95,8 @@ fn bash_completes_commands_below_others(rt: HostRuntime) {
 #[test]
 fn zsh_completes_commands_below_others(rt: HostRuntime) {
     let pieces = [
-        "        archive)\n            _arguments -C -S \\\n                '1:command:( add list)' \\\n",
+        "        archive)\n            _arguments -C -S \\\n                '1:command:( add \
+         list)' \\\n",
         "            case $words[1] in\n        add)\n            _arguments -S",
         "        list)\n",
         "            esac\n            ;;\n",

@@ -1,6 +1,6 @@
-//! What becomes of an operation that is taken, and what an edit makes and is refused for. The
-//! clauses say it of every editor and every operation, and the cases of `radio edit` show each
-//! refusal; here rows are compared whole, and each growth is refused in turn.
+//! How an editor applies an operation, what an edit creates and why it fails. The contracts say it
+//! for every editor and operation, and the cases of `radio edit` show each error. Here whole
+//! histories are compared, and each allocation fails in turn.
 
 mod bodies;
 mod copies;

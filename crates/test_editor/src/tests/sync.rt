@@ -1,5 +1,5 @@
-//! What no clause says: bytes that were written out by hand, and that every call succeeds where
-//! there is memory.
+//! What no contract says: conversations with bytes written by hand, and that every call succeeds
+//! with enough memory.
 mod allocation;
 mod devices;
 mod growing;
@@ -15,15 +15,17 @@ use mt_sync::{Side, Talk, TalkFault, exchange};
 use std::alloc::{Allocator, Global};
 use test_kit::{A, B, Refusing, log_of};
 
-// All that the caller of the log of one marker sends: its Have, 37 bytes, the marker, 51 bytes, and
-// Bye.
+// All bytes that the caller with the log of one marker sends: its Have, 37 bytes; the marker, 51
+// bytes; and Bye.
 const CALLER: &[u8] =
-    b"\0\0\0\x21\x01\0\0\0\x01\0\0\0\0\0\0\0\0\0\0\0\0\0\0\0\x0a\0\0\0\0\0\0\0\x01\0\0\0\0\0\0\0\x2f\x02\0\0\0\x01\0\0\0\0\0\0\0\x01\0\0\0\0\0\0\0\0\0\0\0\0\0\0\0\x0a\0\0\0\0\0\0\0\x01\x0a\0\0\x01\xe0\x04News\0\0\0\x01\x03";
+    b"\0\0\0\x21\x01\0\0\0\x01\0\0\0\0\0\0\0\0\0\0\0\0\0\0\0\x0a\0\0\0\0\0\0\0\x01\0\0\0\0\0\0\0\
+      \x2f\x02\0\0\0\x01\0\0\0\0\0\0\0\x01\0\0\0\0\0\0\0\0\0\0\0\0\0\0\0\x0a\0\0\0\0\0\0\0\x01\x0a\
+      \0\0\x01\xe0\x04News\0\0\0\x01\x03";
 
-// All that the answerer of the empty log sends: its Have and Bye.
+// All bytes that the answerer with the empty log sends: its Have and Bye.
 const ANSWERER: &[u8] = b"\0\0\0\x05\x01\0\0\0\0\0\0\0\x01\x03";
 
-// All that an end sends.
+// All bytes that an end sends.
 fn said_by(side: Side) -> &'static [u8] {
     match side {
         Side::Caller => CALLER,
@@ -31,7 +33,7 @@ fn said_by(side: Side) -> &'static [u8] {
     }
 }
 
-// All that it is told.
+// All bytes that an end receives.
 fn told_to(side: Side) -> &'static [u8] {
     match side {
         Side::Caller => ANSWERER,
@@ -47,8 +49,8 @@ fn log_of_end<M: Allocator + Copy>(memory: M, side: Side) -> Option<Log<M>> {
     }
 }
 
-// How many operations an editor of markers has, each of which its session shows; none where it has
-// failed, and has neither log nor session.
+// The number of operations of an editor of markers, each of which is in its session; `None` if it
+// has failed and so has neither log nor session.
 fn held<M: Allocator + Clone>(editor: &Editor<M>) -> Option<usize> {
     match (editor.log(), editor.session()) {
         (Some(log), Some(session)) if session.markers.items().len() == log.len() => Some(log.len()),
@@ -57,7 +59,7 @@ fn held<M: Allocator + Clone>(editor: &Editor<M>) -> Option<usize> {
     }
 }
 
-// Whether an editor has so many operations, some of them, or has failed.
+// Whether an editor has `count` operations, some of them, or has failed.
 fn is_left<M: Allocator + Clone>(editor: &Editor<M>, count: usize) -> bool {
     match held(editor) {
         Some(some) => some <= count,
@@ -71,8 +73,8 @@ fn has_the_marker<M: Allocator + Copy>(memory: M, editor: &Editor<M>) -> Option<
     Some(*editor.log()? == wanted)
 }
 
-// The fault of a talk that is out of turn from then on, and whose editor holds a front of what it
-// was told or has failed.
+// The fault of a conversation that accepts no more bytes, and whose editor has a prefix of the
+// received operations or has failed.
 fn stopped<M: Allocator + Clone>(
     talk: &mut Talk<M>,
     editor: &mut Editor<M>,
@@ -84,8 +86,8 @@ fn stopped<M: Allocator + Clone>(
     }
 }
 
-// Feeds a talk a piece, and gives what is wanted behind its reply, if what is wanted begins with
-// that.
+// Feeds a piece to a conversation, and returns the expected bytes after its reply, if they begin
+// with the reply.
 fn feed_piece<'w, M: Allocator + Clone>(
     talk: &mut Talk<M>,
     editor: &mut Editor<M>,
@@ -98,14 +100,14 @@ fn feed_piece<'w, M: Allocator + Clone>(
     }
 }
 
-// How a stream is cut: into a first piece of so many bytes, and others of a size.
+// How a stream is cut: the length of the first piece, and the size of the others.
 #[derive(Clone, Copy)]
 struct Cut {
     first: usize,
     size: usize,
 }
 
-// Whether a talk that is fed all bytes in such pieces sends what is wanted.
+// Whether a conversation that is fed all bytes in such pieces sends the expected bytes.
 fn replies<M: Allocator + Clone>(
     talk: &mut Talk<M>,
     editor: &mut Editor<M>,
@@ -125,7 +127,7 @@ fn replies<M: Allocator + Clone>(
     Ok(rest.is_empty())
 }
 
-// Whether it then has ended, and its editor has the marker and nothing else.
+// Whether it has then ended, and its editor has only the marker.
 fn ends<M: Allocator + Clone>(
     talk: &mut Talk<M>,
     editor: &mut Editor<M>,
@@ -136,7 +138,7 @@ fn ends<M: Allocator + Clone>(
     Ok(replied && talk.ended() && has_news(editor))
 }
 
-// The same of a new talk; a caller begins with its Have.
+// Whether a new conversation does all this; a caller begins with its Have.
 fn talks<M: Allocator + Copy>(
     memory: M,
     frames: Global,
@@ -156,7 +158,7 @@ fn talks<M: Allocator + Copy>(
     }
 }
 
-// An end of the conversation, told all in such pieces.
+// An end of the conversation, fed all bytes in such pieces.
 #[derive(Clone, Copy)]
 struct End {
     side: Side,
@@ -180,7 +182,7 @@ impl Work for End {
     }
 }
 
-// Whether what has to come comes, or a refusal where an allocation fails.
+// Whether the result is right, or an error if an allocation fails.
 fn is_wanted(told: Result<bool, TalkFault>, tally: &Refusing<Global>) -> bool {
     if tally.has_refused() {
         told == Err(TalkFault::Memory)
@@ -189,8 +191,8 @@ fn is_wanted(told: Result<bool, TalkFault>, tally: &Refusing<Global>) -> bool {
     }
 }
 
-// Whether an end that is fed all bytes ends: in pieces of a size, and in two pieces of which the
-// first has it.
+// Whether an end that is fed all bytes ends: in pieces of one size, and in two pieces with this
+// length of the first.
 fn is_ended(alloc: Global, side: Side, first: usize) -> bool {
     let pieces = Cut { first, size: first };
     let two = Cut {
@@ -210,7 +212,7 @@ fn ends_however_it_is_cut(rt: HostRuntime) {
     }
 }
 
-// Whether both editors have the marker after an exchange, and nothing else.
+// Whether both editors have only the marker after an exchange.
 fn swap_news<M: Allocator + Copy>(
     memory: M,
     caller: &mut Editor<M>,
@@ -220,7 +222,7 @@ fn swap_news<M: Allocator + Copy>(
     is_done && has_news(caller) && has_news(answerer)
 }
 
-// The caller of the conversation, who meets the answerer in memory.
+// The caller of the conversation, connected to the answerer in memory.
 #[derive(Clone, Copy)]
 struct Meeting;
 

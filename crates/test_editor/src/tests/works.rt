@@ -1,5 +1,5 @@
-//! What is done with an editor that another function owns, since what owns one is dear to prove;
-//! once with memory, or with each growth refused in turn.
+//! Work on an editor that another function owns, since owning one makes a proof expensive: once
+//! with enough memory, or with each allocation failing in turn.
 
 use mt_op::{Body, Op};
 use mt_opcodec::Log;
@@ -9,24 +9,24 @@ use mt_stamp::{Replica, Stamp};
 use std::alloc::{Allocator, Global};
 use test_kit::{A, B, Refusing};
 
-// More growths than a work asks for.
+// More allocations than any work needs.
 const GROWTHS: u64 = 4000;
 
-/// What is done with an editor.
+/// Work on an editor.
 pub(crate) trait Work {
     /// The editor's name.
     fn name(&self) -> Replica {
         B
     }
 
-    /// The log that it begins with; none where an allocation fails.
+    /// The log that it starts with; `None` if an allocation fails.
     fn log<M: Allocator + Copy>(&self, memory: M) -> Option<Log<M>> {
         Some(Log::new(memory))
     }
 
-    /// Whether all is right: where no growth is refused, what comes of it; where one is refused in
-    /// a call that is looked at, its answer and what it leaves. None where one is refused outside
-    /// of such a call. Which it is, the tally tells.
+    /// Whether all is right: the result if no allocation fails; the error and the remaining state
+    /// if one fails in a checked call. `None` if one fails outside of such a call. The tally says
+    /// which case it is.
     fn is_right<M: Allocator + Copy>(
         &self,
         editor: &mut Editor<M>,
@@ -50,8 +50,8 @@ fn looked_at<M: Allocator + Copy, W: Work>(
     work.is_right(editor, memory, alloc, tally)
 }
 
-// The same of an editor that is made of the log, and answers `Memory` just where an allocation
-// fails.
+// Whether all is right with an editor that is built from the log. Building it returns `Memory`
+// exactly if an allocation fails.
 fn done<M: Allocator + Copy, W: Work>(
     memory: M,
     alloc: Global,
@@ -65,20 +65,20 @@ fn done<M: Allocator + Copy, W: Work>(
     }
 }
 
-// The same where one growth is refused, and whether one was.
+// The result if one allocation fails, and whether it failed.
 fn refused_at<W: Work>(alloc: Global, at: u64, work: &W) -> (Option<bool>, bool) {
     let memory = Refusing::new(alloc, at);
     let right = done(&memory, alloc, &memory, work);
     (right, memory.has_refused())
 }
 
-/// Whether all is right where there is memory.
+/// Whether all is right with enough memory.
 pub(crate) fn is_done<W: Work>(alloc: Global, work: &W) -> bool {
     refused_at(alloc, u64::MAX, work) == (Some(true), false)
 }
 
-/// How many growths are refused in the calls that are looked at, each in a run of its own; none
-/// where a run is not right.
+/// The number of failing allocations in the checked calls, each in a separate run; `None` if a run
+/// is not right.
 pub(crate) fn refusals<W: Work>(alloc: Global, work: &W) -> Option<u64> {
     let mut number = 0u64;
     for at in 0..GROWTHS {
@@ -92,7 +92,7 @@ pub(crate) fn refusals<W: Work>(alloc: Global, work: &W) -> Option<u64> {
     None
 }
 
-// Whether an operation is the marker `News` at 480, the first of A.
+// Whether an operation is the marker `News` at 480, the first operation of A.
 fn is_news<M: Allocator>(op: Option<&Op<M>>) -> bool {
     match op {
         Some(op) => {
@@ -114,7 +114,7 @@ fn shows_news<M: Allocator>(session: &Session<M>) -> bool {
     }
 }
 
-/// Whether an editor has that marker and nothing else, and shows it.
+/// Whether an editor and its session have only that marker.
 pub(crate) fn has_news<M: Allocator + Clone>(editor: &Editor<M>) -> bool {
     match (editor.log(), editor.session()) {
         (Some(log), Some(session)) => {

@@ -1,6 +1,6 @@
-//! A run of a world: which world a list of events makes, its clauses and the law `worked_histories`
-//! say, and the stored run of test_world shows it; here a run succeeds where there is memory, and
-//! each growth of it is refused in turn.
+//! A run of a world. The contracts and the law `worked_histories` define the world of a list of
+//! events, and the stored run of test_world shows it. Here a run succeeds with enough memory, and
+//! each of its allocations fails in turn.
 
 use super::works::{Work, refusals};
 use mt_op::Title;
@@ -11,7 +11,8 @@ use std::alloc::{Allocator, Global};
 use sync_world::{Event, World, WorldFault};
 use test_kit::{A, B, Refusing};
 
-// An event of one of two editors: a marker, and a new title and the removal of the first one's.
+// An event of one of two editors: a marker, and a new title or the removal of the first editor's
+// marker.
 #[derive(Clone, Copy)]
 enum Step {
     AddMarker(usize, u32, &'static str),
@@ -22,8 +23,8 @@ enum Step {
     Restart(usize),
 }
 
-// An edit of each kind, saves, takes, a repeated take and restarts, of what was saved and of what
-// was not.
+// An edit of each kind, saves, takes, a repeated take and restarts, with saved and unsaved
+// operations.
 const STEPS: [Step; 12] = [
     Step::AddMarker(0, 1, "News at nine o'clock"),
     Step::Retitle(0, "Late in the evening"),
@@ -86,7 +87,7 @@ fn is_marker<M: Allocator>(marker: Option<&MarkerView<M>>, at: u32, text: &str) 
     }
 }
 
-// Whether a session has the first marker with its new title, and beside it as many markers, of
+// Whether a session has the first marker with its new title and this number of other markers, of
 // which the first is the second editor's.
 fn shows<M: Allocator>(session: &Session<M>, others: usize) -> bool {
     let markers = session.markers.items();
@@ -115,8 +116,8 @@ fn is_sent<M: Allocator>(world: &World<M>, index: usize, replica: Replica, seq: 
     }
 }
 
-// Whether a world is the one that comes of the steps: the first editor lost the take that it had
-// not saved.
+// Whether the world after the steps is right: the first editor lost the operation that it applied
+// and did not save.
 fn is_wanted<M: Allocator + Clone>(world: &World<M>) -> bool {
     is_sent(world, 0, A, 1)
         && is_sent(world, 1, A, 2)
@@ -135,7 +136,7 @@ fn comes_to_it<M: Allocator + Copy>(memory: M, events: &[Event<M>]) -> Result<bo
     }
 }
 
-// A run has editors of its own.
+// A run that owns its editors.
 #[derive(Clone, Copy)]
 struct Run;
 
@@ -163,8 +164,8 @@ fn is_no_world_where_a_allocation_is_refused(rt: HostRuntime) {
     assert!(rt; refusals(rt.alloc(), &Run) > Some(50));
 }
 
-// What a history leaves: the stamps that were sent (clock, replica, number), and the markers of
-// each editor, with how many operations it holds back.
+// The outcome of a history: the stamps that were sent (clock, replica, number), and for each editor
+// its markers and the number of operations that it holds back.
 #[derive(Clone, Copy)]
 struct History<'h> {
     steps: &'h [Step],
@@ -173,7 +174,7 @@ struct History<'h> {
     second: (&'h [(u32, &'static str)], u64),
 }
 
-// Whether the operation that was sent at this place has this stamp.
+// Whether the operation that was sent at this index has this stamp.
 fn is_stamp(world: &World, index: usize, (clock, replica, seq): (u64, Replica, u64)) -> bool {
     match world.sent().get(index) {
         Some(op) => Stamp::new(clock, replica, seq) == Ok(op.stamp()),
@@ -191,7 +192,7 @@ fn are_sent(world: &World, sent: &[(u64, Replica, u64)]) -> bool {
     world.sent().len() == sent.len()
 }
 
-// Whether a session has these markers and holds back so many operations.
+// Whether a session has these markers and this number of held operations.
 fn shows_all(session: &Session, markers: &[(u32, &str)], held: u64) -> bool {
     let shown = session.markers.items();
     for index in 0..markers.len() {
@@ -203,7 +204,7 @@ fn shows_all(session: &Session, markers: &[(u32, &str)], held: u64) -> bool {
     shown.len() == markers.len() && session.held == held
 }
 
-// The same of an editor.
+// Whether an editor shows these markers and this number of held operations.
 fn editor_shows_all(world: &World, index: usize, (markers, held): (&[(u32, &str)], u64)) -> bool {
     match world.editor(index) {
         Some(editor) => match editor.session() {
@@ -214,7 +215,7 @@ fn editor_shows_all(world: &World, index: usize, (markers, held): (&[(u32, &str)
     }
 }
 
-// Whether a history leaves what it should.
+// Whether a history has its expected outcome.
 fn is_history(alloc: Global, history: &History<'_>) -> Option<bool> {
     let events = events_of(alloc, Stamp::new(1, A, 1).ok()?, history.steps)?;
     match World::run(alloc, &[A, B], &events) {
@@ -233,8 +234,8 @@ const Y: (u32, &str) = (2, "Y");
 
 const Z: (u32, &str) = (1, "Z");
 
-// An unsaved marker is gone with a restart; a second take, and one of what was not sent, change
-// nothing.
+// An unsaved marker is lost at a restart. A second take, and a take of something that was not sent,
+// change nothing.
 const RESTARTED: [Step; 7] = [
     Step::AddMarker(0, 1, "X"),
     Step::Restart(0),
@@ -323,7 +324,7 @@ fn sends_once_what_is_saved_twice(rt: HostRuntime) {
     assert!(rt; is_history(rt.alloc(), &history) == Some(true));
 }
 
-// What a world of one name twice is refused as.
+// The error of a world with one name twice.
 fn refused_names(alloc: Global) -> Option<WorldFault> {
     World::run(alloc, &[A, A], &[]).err()
 }

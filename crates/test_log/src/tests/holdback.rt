@@ -1,7 +1,7 @@
-//! Operations that wait for others. What an offer answers and releases equals a definition for
-//! every item, worked out in mt_holdback's specs/Examples.antt; the cases of `radio view` show what
-//! waits, and tests/checks/chain.py releases a long chain. Here each call is met once, and each
-//! growth is refused.
+//! Operations that wait for others. The definition in mt_holdback's specs/Examples.antt says for
+//! every item what an offer returns and releases. The cases of `radio view` show the waiting
+//! operations, and tests/checks/chain.py releases a long chain. Here each call is made once, and
+//! each allocation fails in turn.
 
 use mt_holdback::{HoldBack, HoldBackFault, Offered, Waits};
 use mt_op::{Body, Gain, Op, OpFault};
@@ -10,8 +10,7 @@ use std::alloc::{Allocator, Global};
 use std::test::Fail;
 use test_kit::{A, B, Refusing, add_track, marker, retitle};
 
-// Offers an item whose key is new, which is known from then on; one whose key is known is told as
-// held.
+// Offers an item with a new key, which is known from then on. A known key is reported as held.
 fn offer_new<T: Waits + Drop, M: Allocator + Clone>(
     hold: &mut HoldBack<T, M>,
     item: T,
@@ -23,7 +22,7 @@ fn offer_new<T: Waits + Drop, M: Allocator + Clone>(
     hold.offer(item)
 }
 
-// What is left after the offers of an early retitle.
+// The state after the offers of an early retitle.
 #[derive(Clone, Copy, PartialEq, Eq)]
 struct Left {
     retitle: Result<Offered, HoldBackFault>,
@@ -33,7 +32,7 @@ struct Left {
     released: usize,
 }
 
-// Offers an early retitle and then its marker to a hold-back over this memory.
+// Offers an early retitle and then its marker to a hold-back over this allocator.
 fn left_of<T: Waits + Drop, M: Allocator + Clone>(memory: M, early: T, late: T) -> Left {
     let key = early.key();
     let mut hold = HoldBack::new(memory);
@@ -54,14 +53,14 @@ fn early_retitle<N: Allocator + Clone>(alloc: Global, over: N) -> Result<Left, F
     Ok(left_of(over, early, marker(alloc, item, "News")?))
 }
 
-// The same where one growth is refused, and whether one was.
+// The result if one allocation fails, and whether it failed.
 fn refused_at(alloc: Global, at: u64) -> Result<(Left, bool), Fail> {
     let memory = Refusing::new(alloc, at);
     let left = early_retitle(alloc, &memory)?;
     Ok((left, memory.has_refused()))
 }
 
-// What is left where no growth is refused.
+// The state if no allocation fails.
 const RELEASED: Left = Left {
     retitle: Ok(Offered::Held),
     marker: Ok(Offered::Ready(0)),
@@ -70,7 +69,7 @@ const RELEASED: Left = Left {
     released: 2,
 };
 
-// Whether a refused growth was answered as 0, the later offer as 20, and nothing is left.
+// Whether a failed allocation was reported as 0 and the later offer as 20, and nothing is left.
 fn is_failed(left: &Left) -> bool {
     let answers = (left.retitle, left.marker);
     let at_first = (Err(HoldBackFault::Memory), Err(HoldBackFault::Failed));
@@ -82,7 +81,7 @@ fn is_failed(left: &Left) -> bool {
 }
 
 // row: early_retitle, refused_growths
-// Each growth is refused in turn, until none is.
+// Each allocation fails in turn, until none fails.
 #[test]
 fn fails_at_each_refused_allocation(rt: HostRuntime) -> Result<(), Fail> {
     for at in 0..40 {
@@ -97,7 +96,7 @@ fn fails_at_each_refused_allocation(rt: HostRuntime) -> Result<(), Fail> {
     Err(Fail::from("each run met a refusal"))
 }
 
-// What an offer is answered, how many items are held after it, and how many are released.
+// The result of an offer, the number of held items after it, and the number of released ones.
 type Told = (Result<Offered, HoldBackFault>, u64, usize);
 
 fn tell<T: Waits + Drop, M: Allocator + Clone>(hold: &mut HoldBack<T, M>, item: T) -> Told {
@@ -105,7 +104,7 @@ fn tell<T: Waits + Drop, M: Allocator + Clone>(hold: &mut HoldBack<T, M>, item: 
     (answer, hold.held(), hold.released().len())
 }
 
-// Whether the items of these keys are released, in their order.
+// Whether the items with these keys are released, in this order.
 fn are_released<T: Waits + Drop, M: Allocator>(hold: &HoldBack<T, M>, keys: &[Stamp]) -> bool {
     let released = hold.released();
     for index in 0..keys.len() {
@@ -117,7 +116,7 @@ fn are_released<T: Waits + Drop, M: Allocator>(hold: &HoldBack<T, M>, keys: &[St
     released.len() == keys.len()
 }
 
-// What offers of two items return, of which those of these keys are then released.
+// The results of offers of two items, after which those with these keys are released.
 fn told_of_two<T: Waits + Drop, M: Allocator + Clone>(
     memory: M,
     (first, second): (T, T),
@@ -132,7 +131,7 @@ fn told_of_two<T: Waits + Drop, M: Allocator + Clone>(
     }
 }
 
-// The same of three.
+// The results of offers of three items.
 fn told_of_three<T: Waits + Drop, M: Allocator + Clone>(
     memory: M,
     (first, second, third): (T, T, T),
@@ -151,7 +150,7 @@ fn told_of_three<T: Waits + Drop, M: Allocator + Clone>(
     }
 }
 
-// What offers of three tracks in a row return, from the last to the first.
+// The results of offers of three tracks in a row, from the last to the first.
 fn told_of_tracks(alloc: Global, [p, q, r]: [Stamp; 3]) -> Result<Option<[Told; 3]>, OpFault> {
     let last = add_track(alloc, r, Some(q))?;
     let middle = add_track(alloc, q, Some(p))?;
@@ -169,7 +168,7 @@ fn releases_tracks_from_the_first(rt: HostRuntime) -> Result<(), Fail> {
     Ok(())
 }
 
-// What offers of a gain of a marker, and then of the marker, return.
+// The results of offers of a gain of a marker, and then of the marker.
 fn told_of_a_gain(alloc: Global, item: Stamp, own: Stamp) -> Result<Option<[Told; 2]>, OpFault> {
     let gain = Gain::UNCHANGED;
     let early = Op::new(own, Body::SetGain { item, gain })?;

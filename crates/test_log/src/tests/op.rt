@@ -1,7 +1,7 @@
-//! What no clause says of titles, digests, gains, bodies and operations: that each call succeeds
-//! where there is memory and is refused where there is none, and numbers and digests from outside.
-//! What is a title, a gain, a digest or an operation, what it is refused for and how two compare,
-//! clauses say of every value; the cases of `radio edit` and `radio view` show it.
+//! What no contract says of titles, digests, gains, bodies and operations: that each call succeeds
+//! with enough memory and fails without, and numbers and digests from outside. The contracts define
+//! which values are valid, why others are rejected and how two compare; the cases of `radio edit`
+//! and `radio view` show it.
 
 use mt_op::laws::{
     compare_digests, compare_gains, compare_titles, equal_bodies, equal_ops, equal_titles,
@@ -31,7 +31,7 @@ fn numbers_its_refusals(rt: HostRuntime) {
     assert!(rt; LONGEST_FADE == 1_048_576);
 }
 
-// The parts of the gain that is made of these, and whether 1/1 is less.
+// The parts of the gain that is made of these numbers, and whether 1/1 is less.
 fn gain(num: u16, den: u16) -> Result<(u16, u16, bool), OpFault> {
     let gain = Gain::new(num, den)?;
     let is_more = compare_gains(&unchanged_gain(), &gain).is_lt();
@@ -64,9 +64,11 @@ fn orders_titles_by_their_bytes(rt: HostRuntime) {
 
 // A text of 256 letters.
 const LETTERS: &str =
-    "abcdefghijklmnopabcdefghijklmnopabcdefghijklmnopabcdefghijklmnopabcdefghijklmnopabcdefghijklmnopabcdefghijklmnopabcdefghijklmnopabcdefghijklmnopabcdefghijklmnopabcdefghijklmnopabcdefghijklmnopabcdefghijklmnopabcdefghijklmnopabcdefghijklmnopabcdefghijklmnon";
+    "abcdefghijklmnopabcdefghijklmnopabcdefghijklmnopabcdefghijklmnopabcdefghijklmnopabcdefghijklmn\
+     opabcdefghijklmnopabcdefghijklmnopabcdefghijklmnopabcdefghijklmnopabcdefghijklmnopabcdefghijkl\
+     mnopabcdefghijklmnopabcdefghijklmnopabcdefghijklmnopabcdefghijklmnon";
 
-// Whether a text is a title and its copy is equal, or why it is none.
+// Whether a text is a title and its copy is equal, or the error.
 fn is_title(alloc: Global, text: &str) -> Result<bool, OpFault> {
     let title = Title::new(alloc, text)?;
     Ok(title.text() == text && title.try_clone()? == title)
@@ -83,7 +85,7 @@ fn makes_titles_of_up_to_255_bytes(rt: HostRuntime) {
     assert!(rt; is_title(rt.alloc(), "") == Ok(true));
 }
 
-// Why a new title, a trim of a clip or a removal is not made.
+// Why a new title, a trim of a clip or a removal is rejected.
 fn retitle_fault(alloc: Global, own: Stamp, item: Stamp) -> Option<OpFault> {
     retitle(alloc, own, item, "Late").err()
 }
@@ -122,7 +124,7 @@ const ABC: &str = "ba7816bf8f01cfea414140de5dae2223b00361a396177a9cb410ff61f2001
 
 const CAPITALS: &str = "BA7816BF8F01CFEA414140DE5DAE2223B00361A396177A9CB410FF61F20015AD";
 
-// Digits of which 64 are a digest.
+// The digits of that digest without the last one.
 const DIGITS_63: &str = "ba7816bf8f01cfea414140de5dae2223b00361a396177a9cb410ff61f20015a";
 
 // row: small_values
@@ -135,13 +137,13 @@ fn reads_digests_of_64_digits(rt: HostRuntime) {
     assert!(rt; compare_digests(&abc, &Digest([255; 32])).is_lt());
 }
 
-// Whether the digest of `abc` is written as it should be.
+// Whether the digest of `abc` is written as expected.
 fn writes_abc<M: Allocator>(memory: M) -> Result<bool, OpFault> {
     let text = Digest::of(b"abc").text(memory)?;
     Ok(text.as_str() == ABC)
 }
 
-// What that is answered as where the growth number `at` is refused.
+// The result if the allocation number `at` fails.
 fn written_abc(alloc: Global, at: u64) -> Result<bool, OpFault> {
     let memory = Refusing::new(alloc, at);
     writes_abc(&memory)
@@ -154,7 +156,7 @@ fn writes_digests_and_refuses_their_allocation(rt: HostRuntime) {
     assert!(rt; written_abc(rt.alloc(), 1) == Ok(true));
 }
 
-// How many needs a moved clip has, the second of them, and whether it is a clip itself.
+// The number of needs of a moved clip, the second of them, and whether it is a clip itself.
 fn parts_of_a_move(
     own: Stamp,
     clip: Stamp,
@@ -175,7 +177,7 @@ fn needs_a_clip_and_its_track(rt: HostRuntime) -> Result<(), Fail> {
     Ok(())
 }
 
-// What fades of so many frames are refused as.
+// The error of fades with these numbers of frames.
 fn fade_fault(own: Stamp, clip: Stamp, fade_in: u32, fade_out: u32) -> Option<OpFault> {
     let body: Body<Global> = Body::SetFade {
         clip,
@@ -196,7 +198,7 @@ fn makes_the_longest_fades(rt: HostRuntime) -> Result<(), Fail> {
     Ok(())
 }
 
-// Whether a dot stands at this place beside an operation of this stamp.
+// Whether a dot has this position relative to an operation with this stamp.
 fn is_beside(
     alloc: Global,
     stamp: Stamp,
@@ -207,7 +209,7 @@ fn is_beside(
     Ok(find_op(slice::from_ref(&op), dot) == place)
 }
 
-/// Dots, and where they stand beside an operation of the dot `(A, 2)`.
+/// Dots, and their positions relative to an operation with the dot `(A, 2)`.
 const PLACES: [(Replica, u64, Result<usize, usize>); 4] = [
     (A, 1, Err(0)),
     (A, 2, Ok(0)),
@@ -230,7 +232,7 @@ fn cloned_title<M: Allocator + Clone>(memory: M, text: &str) -> Result<Title<M>,
     Title::new(memory, text)?.try_clone()
 }
 
-// A body of a title that took memory three times: for the title, and for a clone of it and of the
+// A body with a title, after three allocations: for the title, for its clone and for a clone of the
 // body.
 fn cloned_body<M: Allocator + Clone>(memory: M, text: &str) -> Result<Body<M>, OpFault> {
     let title = cloned_title(memory, text)?;
@@ -243,13 +245,13 @@ fn is_marker_at_480<M: Allocator>(op: &Op<M>, stamp: Stamp, text: &str) -> bool 
         && matches!(op.body(), Body::AddMarker { at: 480, title } if title.text() == text)
 }
 
-// Whether the clone of an operation is it.
+// Whether the clone of an operation is equal to it.
 fn is_cloned<M: Allocator + Clone>(op: &Op<M>) -> Result<bool, OpFault> {
     let copy = op.try_clone()?;
     Ok(equal_ops(&copy, op) && equal_bodies(copy.body(), op.body()))
 }
 
-// Whether an operation of such a body is what it was made of, and its clone too.
+// Whether an operation with such a body has the parts that it was made of, and its clone too.
 fn clones_a_marker<M: Allocator + Clone>(
     memory: M,
     stamp: Stamp,
@@ -259,7 +261,7 @@ fn clones_a_marker<M: Allocator + Clone>(
     Ok(is_cloned(&op)? && is_marker_at_480(&op, stamp, text))
 }
 
-// What that is answered as where the growth number `at` is refused.
+// The result if the allocation number `at` fails.
 fn cloned_marker(alloc: Global, at: u64, stamp: Stamp) -> Result<bool, OpFault> {
     let memory = Refusing::new(alloc, at);
     clones_a_marker(&memory, stamp, "News")
@@ -286,7 +288,7 @@ fn clones_a_list<M: Allocator + Clone>(
     is_cloned(&op)
 }
 
-// What that is answered as where the growth number `at` is refused.
+// The result if the allocation number `at` fails.
 fn cloned_list(alloc: Global, at: u64, item: Stamp, own: Stamp) -> Result<bool, OpFault> {
     let memory = Refusing::new(alloc, at);
     clones_a_list(&memory, own, item)

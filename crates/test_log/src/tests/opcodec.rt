@@ -1,7 +1,7 @@
-//! What no clause says: logs that were worked out elsewhere, that every call succeeds where there
-//! is memory, and what is left where memory, a read or a write is refused. Which operation or log a
-//! text is, in which version, and what it is refused as, the clauses say of every one; the cases of
-//! `radio view`, `radio log`, `radio merge` and `radio edit` show it of each act and each refusal.
+//! What no contract says: logs that were worked out elsewhere, that every call succeeds with enough
+//! memory, and the state after a failing allocation, read or write. The contracts define which
+//! operation or log a text is, in which version, and why a text is rejected; the cases of
+//! `radio view`, `radio log`, `radio merge` and `radio edit` show it for each act and each error.
 mod latches;
 mod logs;
 mod merges;

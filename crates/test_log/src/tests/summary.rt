@@ -1,14 +1,14 @@
-//! What no clause says: that every call succeeds where there is memory and is refused where there
-//! is none, and that a count in a body takes none. Which message a body is, the clauses say of
-//! every one: the worked bodies are read here, and the cases of `radio have`, `radio lack` and
-//! `radio take` show others.
+//! What no contract says: that every call succeeds with enough memory and fails without, and that a
+//! count in a body causes no allocation. The contracts define the message of every body: the worked
+//! bodies are read here, and the cases of `radio have`, `radio lack` and `radio take` show others.
 use mt_stamp::{Dot, Stamp};
 use std::alloc::{Allocator, Global};
 use std::test::Fail;
 use sync_messages::{Message, MessageFault, Summary, lacking};
 use test_kit::{A, B, Refusing, log_of};
 
-// How many of a log's markers the summary of another one lacks, and the first and the last of them.
+// The number of markers of a log that the summary of another one lacks, and the first and the last
+// of them.
 type Lacking = (usize, Option<Dot>, Option<Dot>);
 
 fn lacks<M: Allocator + Copy>(
@@ -26,7 +26,7 @@ fn lacks<M: Allocator + Copy>(
     Ok((ops.len(), first, last))
 }
 
-// The same where one growth is refused, and whether one was.
+// The result if one allocation fails, and whether it failed.
 fn refused_lack(
     alloc: Global,
     at: u64,
@@ -69,7 +69,7 @@ fn have_of<M: Allocator + Copy>(memory: M, own: &[Stamp]) -> Result<Vec<u8, M>, 
     }
 }
 
-// How long it is, and whether it is read as a Have that covers the first of its operations.
+// Its length, and whether it is read as a Have that covers the first operation.
 fn have<M: Allocator + Copy>(
     memory: M,
     own: &[Stamp],
@@ -83,7 +83,7 @@ fn have<M: Allocator + Copy>(
     }
 }
 
-// The same where one growth is refused, and whether one was.
+// The result if one allocation fails, and whether it failed.
 fn refused_have(
     alloc: Global,
     at: u64,
@@ -112,7 +112,7 @@ fn refuses_each_allocation_of_a_have(rt: HostRuntime) -> Result<(), Fail> {
     Err(Fail::from("each run met a refusal"))
 }
 
-// The number of the refusal of a body, and how often memory was asked for.
+// The error number for a body, and the number of allocations.
 fn refused_read(alloc: Global, body: &[u8]) -> (Option<u8>, u64) {
     let memory = Refusing::new(alloc, u64::MAX);
     let number = match Message::read(&memory, body) {
@@ -131,8 +131,9 @@ fn is_empty_have(alloc: Global, body: &[u8]) -> Result<bool, MessageFault> {
     Ok(Message::read(alloc, body)? == empty)
 }
 
-// row: message_bodies The worked bodies: a Have of nothing and a Bye; a byte alone, a replica of
-// which nothing is said, no operation, a byte behind Bye.
+// The worked bodies: a Have of nothing, and a Bye. Wrong ones: a single byte, a replica with no
+// operation, no operation at all, and a byte after the Bye.
+// row: message_bodies
 #[test]
 fn reads_the_worked_bodies(rt: HostRuntime) {
     assert!(rt; is_empty_have(rt.alloc(), &[1, 0, 0, 0, 0]) == Ok(true));
@@ -151,12 +152,14 @@ fn reads_the_worked_bodies(rt: HostRuntime) {
 
 /// The Have of the numbers 1, 2 and 4 of A, the operations of one marker, and Bye.
 const BODIES: [&[u8]; 3] = [
-    b"\x01\0\0\0\x01\0\0\0\0\0\0\0\0\0\0\0\0\0\0\0\x0a\0\0\0\0\0\0\0\x02\0\0\0\x01\0\0\0\0\0\0\0\x04",
-    b"\x02\0\0\0\x01\0\0\0\0\0\0\0\x01\0\0\0\0\0\0\0\0\0\0\0\0\0\0\0\x0a\0\0\0\0\0\0\0\x01\x0a\0\0\x01\xe0\x04News",
+    b"\x01\0\0\0\x01\0\0\0\0\0\0\0\0\0\0\0\0\0\0\0\x0a\0\0\0\0\0\0\0\x02\0\0\0\x01\0\0\0\0\0\0\0\
+      \x04",
+    b"\x02\0\0\0\x01\0\0\0\0\0\0\0\x01\0\0\0\0\0\0\0\0\0\0\0\0\0\0\0\x0a\0\0\0\0\0\0\0\x01\x0a\0\0\
+      \x01\xe0\x04News",
     b"\x03",
 ];
 
-// Whether a message, where it may be written, is this body.
+// Whether a well-formed message is written as this body.
 fn is_body(alloc: Global, message: &Message, body: &[u8]) -> Result<bool, MessageFault> {
     if !message.is_well_formed() {
         return Ok(false);
@@ -182,7 +185,8 @@ fn writes_each_kind_of_message(rt: HostRuntime) {
 }
 
 // row: damaged_logs_counts
-// A count alone takes no memory: of replicas, of a replica's numbers beside its run, of operations.
+// A count alone causes no allocation: of replicas, of a replica's numbers apart from its run, or of
+// operations.
 #[test]
 fn takes_no_memory_for_a_count(rt: HostRuntime) {
     let replicas = [1, 255, 255, 255, 255];

@@ -1,14 +1,14 @@
-//! Each growth refused in turn, until a run meets no refusal.
+//! Each allocation fails in turn, until a run needs no more.
 
 use super::render::{are_added, is_added, is_mixed};
 use super::script::is_run;
 use std::alloc::{Allocator, Global};
 use test_kit::Refusing;
 
-// More growths than a run asks for.
+// More allocations than a run needs.
 const GROWTHS: u64 = 400;
 
-// What is done over memory in which an allocation may fail.
+// Work with an allocator that may fail.
 #[derive(Clone, Copy)]
 enum Work {
     // a recording is added to a catalogue
@@ -21,8 +21,8 @@ enum Work {
     Run,
 }
 
-// Whether all is right: where no growth is refused, what comes of it; where one is refused in it,
-// its answer and what it leaves. None where one is refused before.
+// Whether all is right: the result if no allocation fails; the error and the remaining state if one
+// fails in the work. `None` if one fails before.
 fn is_right<M: Allocator + Copy>(memory: M, work: Work, tally: &Refusing<Global>) -> Option<bool> {
     match work {
         Work::AddOne => Some(is_added(memory, tally)),
@@ -32,14 +32,15 @@ fn is_right<M: Allocator + Copy>(memory: M, work: Work, tally: &Refusing<Global>
     }
 }
 
-// The same where one growth is refused, and whether one was.
+// The result if one allocation fails, and whether it failed.
 fn refused_at(alloc: Global, at: u64, work: Work) -> (Option<bool>, bool) {
     let memory = Refusing::new(alloc, at);
     let right = is_right(&memory, work, &memory);
     (right, memory.has_refused())
 }
 
-// How many growths are refused in it, each in a run of its own; none where a run is not right.
+// The number of failing allocations in the work, each in a separate run; `None` if a run is not
+// right.
 fn refusals(alloc: Global, work: Work) -> Option<u64> {
     let mut number = 0u64;
     for at in 0..GROWTHS {

@@ -1,5 +1,5 @@
-//! How a file is written: block by block, and with one growth. Which bytes it has, a clause says of
-//! every mix, and the cases of `radio render` show it.
+//! How a file is written: block by block, and with one allocation. A contract defines its bytes for
+//! every mix, and the cases of `radio render` show them.
 
 use mt_cuewrite::{BounceFault, Head, bounce};
 use mt_opcodec::{Latch, Log};
@@ -21,8 +21,8 @@ fn bounce_mix<M: Allocator, W: Write>(
     Some(bounce(memory, mix, session.markers.items(), &head, output))
 }
 
-// Writes the file of a session over the recording, of 24 bits on two channels. None where the
-// file's parts are not made.
+// Writes the file of a session over the recording, 24 bits on two channels. `None` if the parts of
+// the file cannot be built.
 fn bounce_session<M: Allocator, W: Write>(
     memory: M,
     alloc: Global,
@@ -38,7 +38,7 @@ fn bounce_session<M: Allocator, W: Write>(
     }
 }
 
-// The same of a log.
+// Writes the file of a log.
 fn bounce_log<M: Allocator, W: Write>(
     memory: M,
     alloc: Global,
@@ -51,20 +51,20 @@ fn bounce_log<M: Allocator, W: Write>(
     }
 }
 
-// What came of writing a file.
+// The outcome of writing a file.
 #[derive(Clone, Copy, PartialEq, Eq)]
 struct Written {
     answer: Result<(), BounceFault>,
-    // how many bytes the writer holds
+    // the number of bytes that the writer has
     held: usize,
-    // how many of them it was given at once at most
+    // the greatest number of bytes in one write
     greatest: usize,
-    // how many writes there were
+    // the number of writes
     asked: usize,
 }
 
-// What comes of writing the file of a log over this memory to a writer that fails behind so many
-// writes.
+// The outcome of writing the file of a log with this allocator to a writer that fails after this
+// number of writes.
 fn write_log<M: Allocator>(memory: M, alloc: Global, log: &Log, good: usize) -> Option<Written> {
     let writer = FailingWriter::of_pieces(alloc, usize::MAX, good, ErrorKind::Other);
     let mut output = Latch::new(writer);
@@ -78,7 +78,7 @@ fn write_log<M: Allocator>(memory: M, alloc: Global, log: &Log, good: usize) -> 
     })
 }
 
-// Whether a file is not written, and the writer is not asked again behind the write of this number,
+// Whether the call fails, and the writer is not called again after the write with this number,
 // which fails.
 fn fails_after(alloc: Global, log: &Log, good: usize) -> bool {
     match write_log(alloc, alloc, log, good) {
@@ -107,7 +107,7 @@ fn writes_block_by_block(rt: HostRuntime) -> Result<(), Fail> {
     Ok(())
 }
 
-// What is answered where this growth is refused, how many bytes are written, and whether one was.
+// The result if this allocation fails, the number of written bytes, and whether it failed.
 fn refused_at(alloc: Global, log: &Log, at: u64) -> Option<(Result<(), BounceFault>, usize, bool)> {
     let memory = Refusing::new(alloc, at);
     let written = write_log(&memory, alloc, log, usize::MAX)?;

@@ -1,5 +1,5 @@
-//! Texts for other programs, and from them: one of each with ample memory, and each allocation
-//! refused in turn. What they are, the clauses say of all, and `tests/checks/interchange.py` shows.
+//! Texts for other programs, and from them: one of each with enough memory, and each allocation
+//! failing in turn. The contracts define all of them, and `tests/checks/interchange.py` shows them.
 
 use mt_bwfread::Wave;
 use mt_op::{Body, Op, Title};
@@ -13,10 +13,10 @@ use text_cues::{CuesFault, append_shown, cue_lines};
 use text_edl::{EdlFault, FrameRate, edit_list};
 use text_labels::{LabelsFault, label_script, label_track};
 
-// More allocations than one of them asks for.
+// More allocations than one of them needs.
 const ALLOCATIONS: u64 = 200;
 
-// Two frames at 48,000 a second, and a cue point of length 2 at the second one.
+// Two frames at 48,000 per second, and a cue point with the length 2 at the second one.
 const FILE: &[u8] = b"RIFF\x84\0\0\0WAVEfmt \x10\0\0\0\
 \x01\0\x01\0\x80\xbb\0\0\0w\x01\0\x02\0\x10\0data\x04\0\0\0\x01\0\xff\xff\
 cue \x1c\0\0\0\x01\0\0\0\x07\0\0\0\x01\0\0\0data\0\0\0\0\0\0\0\0\x01\0\0\0\
@@ -65,7 +65,7 @@ enum Text {
     List,
 }
 
-// Whether a text is the wanted one; none where there was no memory for it.
+// Whether a text is the expected one; `None` if it could not be allocated.
 fn is_text<M: Allocator>(made: Result<Vec<u8, M>, AllocError>, wanted: &[u8]) -> Option<bool> {
     match made {
         Ok(text) => Some(text.as_slice() == wanted),
@@ -118,7 +118,7 @@ fn is_list<M: Allocator + Clone>(memory: M, session: &Session) -> Option<bool> {
     }
 }
 
-// Whether a text of this kind is right; none where there was no memory for it.
+// Whether a text of this kind is right; `None` if it could not be allocated.
 fn is_right<M: Allocator + Clone>(memory: M, text: Text, session: &Session) -> Option<bool> {
     match text {
         Text::Shown => is_shown(memory),
@@ -130,14 +130,14 @@ fn is_right<M: Allocator + Clone>(memory: M, text: Text, session: &Session) -> O
     }
 }
 
-// The same where one allocation is refused, and whether one was.
+// The result if one allocation fails, and whether it failed.
 fn refused_at(alloc: Global, at: u64, text: Text, session: &Session) -> (Option<bool>, bool) {
     let memory = Refusing::new(alloc, at);
     let right = is_right(&memory, text, session);
     (right, memory.has_refused())
 }
 
-// How many allocations are refused, each in a run of its own; none where a run is not right.
+// The number of failing allocations, each in a separate run; `None` if a run is not right.
 fn refusals(alloc: Global, text: Text, session: &Session) -> Option<u64> {
     for at in 0..ALLOCATIONS {
         match refused_at(alloc, at, text, session) {

@@ -1,5 +1,5 @@
-//! What is taken to a mix. Each sample and each refusal is said by a clause of every mix, and the
-//! cases of `radio render` compare whole files.
+//! The input of a mix. A contract defines each sample and each error for every mix, and the cases
+//! of `radio render` compare whole files.
 
 mod blocks;
 mod fades;
@@ -14,15 +14,22 @@ use mt_sessionview::{Session, from_scratch};
 use std::alloc::{Allocator, Global};
 use test_kit::{RECORDING, Refusing};
 
-// The log of a track with a clip of the recording, of its three frames.
+// The log of a track with a clip of the three frames of the recording.
 const VOICE: &[u8] =
-    b"RMTS\x01\0\0\0\0\0\0\0\x02\0\0\0\0\0\0\0\x01\0\0\0\0\0\0\0\0\0\0\0\0\0\0\0\n\0\0\0\0\0\0\0\x01\x01\0\x05Voice\0\0\0\0\0\0\0\x02\0\0\0\0\0\0\0\0\0\0\0\0\0\0\0\n\0\0\0\0\0\0\0\x02\x03\xcc\n\x0e\x06Q\xf6\xe9\xe3\x04D&eCz\xb6\x1a\xc3\xb50+Q\xbbJ\x16\x1b\x14K\xf9\x98]\xfby\0\0\0\0\0\0\0\x01\0\0\0\0\0\0\0\0\0\0\0\0\0\0\0\n\0\0\0\0\0\0\0\x01\0\0\0\0\0\0\0\0\0\0\0\x03\xec!j\xa9@.\x0c\xb4\x15\xf4\xa9_\x1b\x01U:Y\xbe\x07\xf4F\xd4\xce\x92\x93OK2\xa26\x1f`";
+    b"RMTS\x01\0\0\0\0\0\0\0\x02\
+      \0\0\0\0\0\0\0\x01\0\0\0\0\0\0\0\0\0\0\0\0\0\0\0\n\0\0\0\0\0\0\0\x01\x01\0\x05Voice\
+      \0\0\0\0\0\0\0\x02\0\0\0\0\0\0\0\0\0\0\0\0\0\0\0\n\0\0\0\0\0\0\0\x02\x03\
+      \xcc\n\x0e\x06Q\xf6\xe9\xe3\x04D&eCz\xb6\x1a\xc3\xb50+Q\xbbJ\x16\x1b\x14K\xf9\x98]\xfby\
+      \0\0\0\0\0\0\0\x01\0\0\0\0\0\0\0\0\0\0\0\0\0\0\0\n\0\0\0\0\0\0\0\x01\0\0\0\0\0\0\0\0\
+      \0\0\0\x03\
+      \xec!j\xa9@.\x0c\xb4\x15\xf4\xa9_\x1b\x01U:Y\xbe\x07\xf4F\xd4\xce\x92\x93OK2\xa26\x1f`";
 
-// Another recording, of one frame of 8 bits.
+// Another recording, one frame of 8 bits.
 const ONE_FRAME: &[u8] =
-    b"RIFF\xff\xff\0\0WAVEfmt \x10\0\0\0\x01\0\x01\0\x80\xbb\0\0\0\0\0\0\x01\0\x08\0data\x01\0\0\0\0";
+    b"RIFF\xff\xff\0\0WAVEfmt \x10\0\0\0\x01\0\x01\0\x80\xbb\0\0\0\0\0\0\x01\0\x08\0\
+      data\x01\0\0\0\0";
 
-// How many of these recordings a catalogue has.
+// The number of these recordings that a catalogue has.
 fn count_of<M: Allocator>(catalogue: &Catalogue<'_, M>, files: &[&[u8]]) -> usize {
     let mut there = 0usize;
     for file in files {
@@ -33,7 +40,7 @@ fn count_of<M: Allocator>(catalogue: &Catalogue<'_, M>, files: &[&[u8]]) -> usiz
     there
 }
 
-/// Whether a recording is there once it is added; none where an allocation fails.
+/// Whether a recording is there after it is added; `None` if an allocation fails.
 pub(super) fn is_added<M: Allocator + Copy>(memory: M, tally: &Refusing<Global>) -> bool {
     let mut catalogue = Catalogue::new(memory);
     let answer = catalogue.add(RECORDING);
@@ -45,7 +52,7 @@ pub(super) fn is_added<M: Allocator + Copy>(memory: M, tally: &Refusing<Global>)
     }
 }
 
-/// Whether five recordings of two digests are there once they are added; none where an allocation
+/// Whether five recordings with two digests are there after they are added; `None` if an allocation
 /// fails.
 pub(super) fn are_added<M: Allocator + Copy>(memory: M, tally: &Refusing<Global>) -> bool {
     let files = [RECORDING, ONE_FRAME, RECORDING, ONE_FRAME, RECORDING];
@@ -58,7 +65,7 @@ pub(super) fn are_added<M: Allocator + Copy>(memory: M, tally: &Refusing<Global>
     }
 }
 
-// How long the mix of a session over a catalogue is.
+// The length of the mix of a session over a catalogue.
 fn length_over<M: Allocator + Clone>(
     memory: M,
     session: &Session<M>,
@@ -70,7 +77,7 @@ fn length_over<M: Allocator + Clone>(
     Ok(Mix::new(memory, session, catalogue, format)?.length())
 }
 
-// The same over the recording.
+// The length of the mix over the recording.
 fn length_of<M: Allocator + Copy>(memory: M, session: &Session<M>) -> Result<u64, MixFault> {
     let mut catalogue = Catalogue::new(memory);
     match catalogue.add(RECORDING) {
@@ -88,7 +95,7 @@ fn session_of<M: Allocator + Copy>(memory: M, text: &[u8]) -> Option<Session<M>>
     }
 }
 
-// Fills a block where it lies in the programme, and tells whether it does.
+// Fills a block if it lies inside the programme, and returns whether it does.
 fn fill(mix: &Mix<'_, '_>, first: u64, samples: &mut [i32]) -> bool {
     let channels = usize::from(mix.format().channels());
     if channels == 0 || samples.len() % channels != 0 {
@@ -102,7 +109,7 @@ fn fill(mix: &Mix<'_, '_>, first: u64, samples: &mut [i32]) -> bool {
     true
 }
 
-/// Whether that of the clip is as long as it is, or fails where an allocation does; none where an
+/// Whether the mix of the clip has its length, or fails if an allocation fails; `None` if an
 /// allocation of the session fails.
 pub(super) fn is_mixed<M: Allocator + Copy>(memory: M, tally: &Refusing<Global>) -> Option<bool> {
     let session = session_of(memory, VOICE)?;

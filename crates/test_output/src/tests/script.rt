@@ -1,5 +1,5 @@
-//! Whole scripts. What each line makes, and which one is refused, the clauses say of every script,
-//! and the cases of `radio edit` show of every form.
+//! Whole scripts. The contracts define for every script what each line creates and which line
+//! fails, and the cases of `radio edit` show it for every form.
 use mt_opcodec::Log;
 use mt_replica::{Editor, EditorFault};
 use mt_script::{ScriptFault, run};
@@ -16,7 +16,7 @@ fade $2 5 0
 marker-length $4 96
 ";
 
-// Whether an editor of the empty log makes all lines, or is as it was where an allocation fails.
+// Whether an editor of the empty log runs all lines, or is unchanged if an allocation fails.
 fn is_right<M: Allocator + Copy>(
     memory: M,
     editor: &mut Editor<M>,
@@ -31,7 +31,7 @@ fn is_right<M: Allocator + Copy>(
     }
 }
 
-/// The same; none where an allocation fails before.
+/// Whether it does so; `None` if an allocation fails before.
 pub(super) fn is_run<M: Allocator + Copy>(memory: M, tally: &Refusing<Global>) -> Option<bool> {
     match Editor::from_log(memory, A, Log::new(memory)) {
         Ok(mut editor) => Some(is_right(memory, &mut editor, tally)),
@@ -41,15 +41,28 @@ pub(super) fn is_run<M: Allocator + Copy>(memory: M, tally: &Refusing<Global>) -
 
 // The log of a marker.
 const ONE_MARKER: &[u8] =
-    b"RMTS\x01\0\0\0\0\0\0\0\x01\0\0\0\0\0\0\0\x01\0\0\0\0\0\0\0\0\0\0\0\0\0\0\0\n\0\0\0\0\0\0\0\x01\n\0\0\x01\xe0\x04NewsV\xbc\xa5\xd5\x94\x11\xf1\x8b%\xd0Kj\xc5\xc7y=\x90f+\xb3z,\x84'+3\x07Ox\x0e\x8f\x0c";
+    b"RMTS\x01\0\0\0\0\0\0\0\x01\
+      \0\0\0\0\0\0\0\x01\0\0\0\0\0\0\0\0\0\0\0\0\0\0\0\n\0\0\0\0\0\0\0\x01\n\0\0\x01\xe0\x04News\
+      V\xbc\xa5\xd5\x94\x11\xf1\x8b%\xd0Kj\xc5\xc7y=\x90f+\xb3z,\x84'+3\x07Ox\x0e\x8f\x0c";
 
-// The log of no operation.
+// The log without operations.
 const EMPTY: &[u8] =
-    b"RMTS\x01\0\0\0\0\0\0\0\0\x11\x16\xdd\xab\xe2:a\xd2\xbd\xea\xf3\x06\x06\x0d\xd62;\xc4\xbc\xc6\xb9\xeb\xc9\x85\xe13n\x1a>\x85#Q";
+    b"RMTS\x01\0\0\0\0\0\0\0\0\
+      \x11\x16\xdd\xab\xe2:a\xd2\xbd\xea\xf3\x06\x06\x0d\xd62;\xc4\xbc\xc6\xb9\xeb\xc9\x85\xe13n\
+      \x1a>\x85#Q";
 
-// The log of the four operations that a script makes.
+// The log of the four operations that a script creates.
 const FOUR_MADE: &[u8] =
-    b"RMTS\x01\0\0\0\0\0\0\0\x04\0\0\0\0\0\0\0\x01\0\0\0\0\0\0\0\0\0\0\0\0\0\0\0\n\0\0\0\0\0\0\0\x01\x01\0\x05Voice\0\0\0\0\0\0\0\x02\0\0\0\0\0\0\0\0\0\0\0\0\0\0\0\n\0\0\0\0\0\0\0\x02\x03\xbax\x16\xbf\x8f\x01\xcf\xeaAA@\xde]\xae\"#\xb0\x03a\xa3\x96\x17z\x9c\xb4\x10\xffa\xf2\0\x15\xad\0\0\0\0\0\0\0\x01\0\0\0\0\0\0\0\0\0\0\0\0\0\0\0\n\0\0\0\0\0\0\0\x01\0\0\0\0\0\0\0\n\0\0\0\x14\0\0\0\0\0\0\0\x03\0\0\0\0\0\0\0\0\0\0\0\0\0\0\0\n\0\0\0\0\0\0\0\x03\x06\0\0\0\0\0\0\0\x02\0\0\0\0\0\0\0\0\0\0\0\0\0\0\0\n\0\0\0\0\0\0\0\x02\0\x01\0\x02\0\0\0\0\0\0\0\x04\0\0\0\0\0\0\0\0\0\0\0\0\0\0\0\n\0\0\0\0\0\0\0\x04\n\0\0\x01\xe0\x04Newso\0\xd6\x92$\x03X\x0fDg\x8dqtV/\xf5\xb2Y\xd2\xcea\xf2\x03pV\xe4\xd7\xca\xaa\xd9$g";
+    b"RMTS\x01\0\0\0\0\0\0\0\x04\
+      \0\0\0\0\0\0\0\x01\0\0\0\0\0\0\0\0\0\0\0\0\0\0\0\n\0\0\0\0\0\0\0\x01\x01\0\x05Voice\
+      \0\0\0\0\0\0\0\x02\0\0\0\0\0\0\0\0\0\0\0\0\0\0\0\n\0\0\0\0\0\0\0\x02\x03\
+      \xbax\x16\xbf\x8f\x01\xcf\xeaAA@\xde]\xae\"#\xb0\x03a\xa3\x96\x17z\x9c\xb4\x10\xffa\xf2\0\x15\
+      \xad\0\0\0\0\0\0\0\x01\0\0\0\0\0\0\0\0\0\0\0\0\0\0\0\n\0\0\0\0\0\0\0\x01\0\0\0\0\0\0\0\n\
+      \0\0\0\x14\
+      \0\0\0\0\0\0\0\x03\0\0\0\0\0\0\0\0\0\0\0\0\0\0\0\n\0\0\0\0\0\0\0\x03\x06\
+      \0\0\0\0\0\0\0\x02\0\0\0\0\0\0\0\0\0\0\0\0\0\0\0\n\0\0\0\0\0\0\0\x02\0\x01\0\x02\
+      \0\0\0\0\0\0\0\x04\0\0\0\0\0\0\0\0\0\0\0\0\0\0\0\n\0\0\0\0\0\0\0\x04\n\0\0\x01\xe0\x04News\
+      o\0\xd6\x92$\x03X\x0fDg\x8dqtV/\xf5\xb2Y\xd2\xcea\xf2\x03pV\xe4\xd7\xca\xaa\xd9$g";
 
 // Whether an editor has this log.
 fn has_log(editor: &Editor, text: &[u8]) -> bool {
@@ -62,7 +75,7 @@ fn has_log(editor: &Editor, text: &[u8]) -> bool {
     }
 }
 
-// What an editor answers to a script, where it has this log then.
+// The result of a script, if the editor then has this log.
 fn answer_of(
     alloc: Global,
     editor: &mut Editor,
@@ -77,7 +90,7 @@ fn answer_of(
     }
 }
 
-// The same of the editor of a log, as A.
+// The result of a script for the editor of a log, as A.
 fn answered(
     alloc: Global,
     log: &[u8],

@@ -1,7 +1,8 @@
-//! What the ready ones of some operations leave of each item, with each growth refused in turn.
-//! What is answered of whatever was noted, the clauses say; the cases of `radio view` show the
-//! sessions that come of it, and those of `radio log` which act may be named as what. The tests of
-//! editors note operations one by one.
+//! The state of each item after some ready operations. Each allocation fails in turn.
+//!
+//! The contracts define the results for all operations. The cases of `radio view` show the
+//! sessions, and those of `radio log` show which operation may name which item. The tests of
+//! editors apply operations one by one.
 
 ghost use Rattle.std.specs.Prelude.{◌≡◌, ◌<◌, ◌+◌, IsTrue, map, drop, length};
 ghost use Rattle.mt_stamp.specs.Sorting.{RisesStrictly};
@@ -13,13 +14,13 @@ use session_state::{ItemStates, items_of_ready};
 use std::alloc::{AllocError, Allocator, Global};
 use test_kit::{A, Refusing, add_track, marker, removal, retitle};
 
-// The stamp of an operation, counted from 1: a marker, a new title, its removal and its return, a
-// track, and a clip on it. The last moves the track behind one that is missing, and is not ready.
+// The stamp of an operation, counted from 1: a marker, a new title, its Remove and Restore, a
+// track, and a clip on it. The last one moves the track after a missing one, and is not ready.
 fn stamp(number: u64) -> Option<Stamp> {
     Stamp::new(number, A, number).ok()
 }
 
-// How many they are.
+// The number of operations.
 const COUNT: u64 = 7;
 
 fn clip_on<M: Allocator>(track: Stamp) -> Body<M> {
@@ -32,8 +33,8 @@ fn clip_on<M: Allocator>(track: Stamp) -> Body<M> {
     }
 }
 
-// The operation of this number and stamp, where the marker, the track and the missing one have
-// these.
+// The operation with this number and stamp. The others are the stamps of the marker, the track and
+// the missing track.
 fn made<M: Allocator>(
     memory: M,
     number: u64,
@@ -64,7 +65,7 @@ fn op<M: Allocator>(memory: M, number: u64) -> Option<Op<M>> {
     made(memory, number, stamp(number)?, items).ok()
 }
 
-// Adds them to a list.
+// Adds the operations to a list.
 fn push_ops<M: Allocator + Copy>(ops: &mut Vec<Op<M>, M>, memory: M) -> Option<()> {
     for index in 0..COUNT {
         ops.push(op(memory, index.saturating_add(1))?).ok()?;
@@ -72,7 +73,7 @@ fn push_ops<M: Allocator + Copy>(ops: &mut Vec<Op<M>, M>, memory: M) -> Option<(
     Some(())
 }
 
-// Whether an operation's stamp is smaller than the next one's, where there is a next one.
+// Whether the stamp of an operation is smaller than the next one's, if there is a next one.
 fn is_before_next<M: Allocator>(ops: &[&Op<M>], i: usize) -> bool
     requires { i < length ops.now }
     ensures { IsTrue result → RisesStrictly op_cmp (map (λ o. o.now) (drop (i + 1) ops.now))
@@ -86,7 +87,7 @@ fn is_before_next<M: Allocator>(ops: &[&Op<M>], i: usize) -> bool
     }
 }
 
-// Whether operations rise by stamp.
+// Whether operations are in rising order of stamps.
 fn rises<M: Allocator>(ops: &[&Op<M>]) -> bool
     ensures { IsTrue result → RisesStrictly op_cmp (map (λ o. o.now) ops.now) }
 {
@@ -100,7 +101,7 @@ fn rises<M: Allocator>(ops: &[&Op<M>]) -> bool
     true
 }
 
-// The items of the ready ones of these operations. None where they do not rise by stamp.
+// The items of the ready operations among these; `None` if they are not in rising order.
 fn ready<M: Allocator + Clone>(
     memory: M,
     rising: &[&Op<M>],
@@ -128,7 +129,7 @@ fn ready_of<M: Allocator + Copy>(memory: M, ops: &[Op<M>]) -> Option<ItemStates<
     }
 }
 
-// How many live tags the marker has, and how many tracks, clips and markers there are.
+// The number of live tags of the marker, and the numbers of tracks, clips and markers.
 fn counts<M: Allocator + Clone>(items: &ItemStates<M>, marker: Stamp) -> Option<[usize; 4]> {
     let tags = items.live_tags(marker).ok()?.len();
     let tracks = items.tracks().ok()?.len();
@@ -137,7 +138,7 @@ fn counts<M: Allocator + Clone>(items: &ItemStates<M>, marker: Stamp) -> Option<
     Some([tags, tracks, clips, markers])
 }
 
-// The same of what the ready ones leave; none where an allocation fails.
+// These numbers for the ready operations; `None` if an allocation fails.
 fn ready_counts<M: Allocator + Copy>(memory: M) -> Option<[usize; 4]> {
     let mut ops = Vec::new(memory);
     push_ops(&mut ops, memory)?;
@@ -145,7 +146,7 @@ fn ready_counts<M: Allocator + Copy>(memory: M) -> Option<[usize; 4]> {
     counts(&items, stamp(1)?)
 }
 
-// The same where one growth is refused, and whether one was.
+// The result if one allocation fails, and whether it failed.
 fn refused_at(alloc: Global, at: u64) -> (Option<[usize; 4]>, bool) {
     let memory = Refusing::new(alloc, at);
     let counted = ready_counts(&memory);

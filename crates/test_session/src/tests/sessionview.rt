@@ -1,5 +1,5 @@
-//! Sessions of a few operations. Which session a log has and what its text is, the clauses say of
-//! every log; the cases of `radio view` show it.
+//! Sessions of a few operations. The contracts define the session and the text of every log; the
+//! cases of `radio view` show them.
 
 mod changes;
 mod texts;
@@ -13,7 +13,7 @@ use std::test::Fail;
 use test_kit::{A, B, Refusing, add_track, marker, retitle};
 
 /// An operation of the tests: a track `Voice` that is moved, its clip, a marker `News`, its title
-/// `Late`, and a title of a marker that no test has.
+/// `Late`, and a title of a missing marker.
 #[derive(Clone, Copy)]
 pub enum Item {
     Voice,
@@ -37,7 +37,7 @@ fn stamp_of(item: Item) -> Result<Stamp, StampFault> {
     }
 }
 
-// The operation that one names.
+// The operation that another one names.
 fn named_by(item: Item) -> Item {
     match item {
         Item::Late => Item::News,
@@ -56,7 +56,7 @@ fn clip_on<M: Allocator>(track: Stamp) -> Body<M> {
     }
 }
 
-// A track that is put behind itself.
+// A track that is moved after itself.
 fn moved<M: Allocator>(track: Stamp) -> Body<M> {
     Body::MoveTrack {
         track,
@@ -64,7 +64,7 @@ fn moved<M: Allocator>(track: Stamp) -> Body<M> {
     }
 }
 
-// An operation of this stamp, which may name this item.
+// An operation with this stamp, which may name this item.
 fn made<M: Allocator>(memory: M, which: Item, own: Stamp, item: Stamp) -> Result<Op<M>, OpFault> {
     match which {
         Item::Voice => add_track(memory, own, None),
@@ -119,14 +119,14 @@ fn numbers_its_refusals(rt: HostRuntime) {
     assert!(rt; SessionFault::Write.number() == 37);
 }
 
-/// How many growths the log of these operations takes.
+/// The number of allocations for the log of these operations.
 pub fn allocs_of_log(alloc: Global, items: &[Item]) -> Result<u64, SessionFault> {
     let memory = Refusing::new(alloc, u64::MAX);
     let _log = log_of(&&memory, items)?;
     Ok(memory.allocations())
 }
 
-// Whether these stamps are those that are ready of the log of these operations.
+// Whether exactly these stamps are ready in the log of these operations.
 fn are_ready<M: Allocator + Clone>(
     memory: &M,
     items: &[Item],
@@ -139,7 +139,7 @@ fn are_ready<M: Allocator + Clone>(
 
 const BOTH: [Item; 2] = [Item::Late, Item::News];
 
-// The same where one growth is refused, and whether one was.
+// The result if one allocation fails, and whether it failed.
 fn refused_ready(alloc: Global, at: u64, wanted: &[Stamp]) -> (Result<bool, SessionFault>, bool) {
     let memory = Refusing::new(alloc, at);
     let ready = are_ready(&&memory, &BOTH, wanted);

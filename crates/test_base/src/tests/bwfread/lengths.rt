@@ -1,15 +1,15 @@
-//! Lengths of cue points: one that is cut short is none, and the first of a name counts. What a
-//! count or a size tells beyond the bytes is not there.
+//! Lengths of cue points. A truncated one is ignored, and the first one for a cue point counts.
+//! Counts and sizes that exceed the bytes add nothing.
 
 use crate::tests::bwfread::{file, pcm};
 use mt_bwfread::Wave;
 use std::alloc::{AllocError, Global};
 use std::test::Fail;
 
-/// A cue point of the name 1, at the frame 5.
+/// A cue point with the identifier 1 at frame 5.
 const CUE: &[u8] = b"\x01\0\0\0\x01\0\0\0\x05\0\0\0data\0\0\0\0\0\0\0\0\x05\0\0\0";
 
-// A file of a format, of samples, of cue points and of a list.
+// A file made of a format, samples, cue points and a list.
 fn with_list<'a>(
     alloc: Global,
     format: &'a [u8],
@@ -28,7 +28,7 @@ fn with_list<'a>(
     )
 }
 
-// Whether the list gives the cue point this length, and the label `News`.
+// Whether the list gives the cue point this length and the label `News`.
 fn gives(alloc: Global, list: &[u8], length: Option<u32>) -> Result<bool, AllocError> {
     let text = with_list(alloc, &pcm(1, 8), &[129], CUE, list)?;
     let Ok(wave) = Wave::read(&text) else {
@@ -44,7 +44,9 @@ fn gives(alloc: Global, list: &[u8], length: Option<u32>) -> Result<bool, AllocE
 #[test]
 fn passes_over_a_length_of_19_bytes(rt: HostRuntime) -> Result<(), Fail> {
     let list =
-        b"adtlltxt\x13\0\0\0\x01\0\0\0\x03\0\0\0rgn \0\0\0\0\0\0\0\0labl\x09\0\0\0\x01\0\0\0News\0\0";
+        b"adtl\
+          ltxt\x13\0\0\0\x01\0\0\0\x03\0\0\0rgn \0\0\0\0\0\0\0\0\
+          labl\x09\0\0\0\x01\0\0\0News\0\0";
     assert!(rt; gives(rt.alloc(), list, None)?);
     Ok(())
 }
@@ -52,12 +54,15 @@ fn passes_over_a_length_of_19_bytes(rt: HostRuntime) -> Result<(), Fail> {
 #[test]
 fn takes_the_first_of_two_lengths(rt: HostRuntime) -> Result<(), Fail> {
     let list =
-        b"adtlltxt\x14\0\0\0\x01\0\0\0\x03\0\0\0beat\0\0\0\0\0\0\0\0ltxt\x14\0\0\0\x01\0\0\0\x04\0\0\0rgn \0\0\0\0\0\0\0\0labl\x09\0\0\0\x01\0\0\0News\0\0";
+        b"adtl\
+          ltxt\x14\0\0\0\x01\0\0\0\x03\0\0\0beat\0\0\0\0\0\0\0\0\
+          ltxt\x14\0\0\0\x01\0\0\0\x04\0\0\0rgn \0\0\0\0\0\0\0\0\
+          labl\x09\0\0\0\x01\0\0\0News\0\0";
     assert!(rt; gives(rt.alloc(), list, Some(3))?);
     Ok(())
 }
 
-// How many cue points a chunk has that tells so many and has the bytes of one.
+// The number of cue points in a chunk that claims `count` of them and has the bytes of one.
 fn cue_count(alloc: Global, count: u32) -> Result<u32, AllocError> {
     let mut cue = Vec::from_slice(alloc, &count.to_le_bytes())?;
     cue.extend_from_slice(&CUE[4..])?;
@@ -76,7 +81,7 @@ fn counts_the_cue_points_that_are_there(rt: HostRuntime) {
     }
 }
 
-// Whether a file has an extension whose chunk has so many bytes 0.
+// Whether a file has an extension if that chunk consists of `length` zero bytes.
 fn has_extension(alloc: Global, length: usize) -> Result<bool, AllocError> {
     let extension = vec![in alloc; 0; length]?;
     let chunks: [(&[u8], &[u8]); 3] = [
@@ -98,11 +103,13 @@ fn passes_over_an_extension_of_601_bytes(rt: HostRuntime) {
     assert!(rt; has_extension(rt.alloc(), 602) == Ok(true));
 }
 
-// a label and a length of 2^32 - 1 bytes in a list of few
+// A label and a length that claim 2^32 - 1 bytes in a short list.
 #[test]
 fn passes_over_a_label_and_a_length_that_are_too_long(rt: HostRuntime) -> Result<(), Fail> {
     for list in [
-        b"adtllabl\x09\0\0\0\x01\0\0\0News\0\0ltxt\xff\xff\xff\xff\x01\0\0\0\x03\0\0\0rgn \0\0\0\0\0\0\0\0".as_slice(),
+        b"adtl\
+          labl\x09\0\0\0\x01\0\0\0News\0\0\
+          ltxt\xff\xff\xff\xff\x01\0\0\0\x03\0\0\0rgn \0\0\0\0\0\0\0\0".as_slice(),
         b"adtllabl\x09\0\0\0\x01\0\0\0News\0\0labl\xff\xff\xff\xff\x01\0\0\0Else\0\0",
     ] {
         assert!(rt; gives(rt.alloc(), list, None)?);

@@ -1,4 +1,4 @@
-//! Presences with many marks, and each growth refused in turn.
+//! Presences with many marks. Each allocation fails in turn.
 
 use super::{A, B};
 use mt_cells::{CellFault, Join, Presence};
@@ -7,7 +7,7 @@ use std::alloc::{Allocator, Global};
 use std::test::Fail;
 use test_alloc::Refusing;
 
-// A tag that is added, or removed.
+// A tag that is added or removed.
 #[derive(Clone, Copy)]
 enum AppliedOps {
     Tag(Stamp),
@@ -33,7 +33,7 @@ fn with_marks(alloc: Global, marks: &[AppliedOps]) -> Result<Presence, CellFault
     }
 }
 
-// Whether these are the live tags of a presence, and its copy is equal.
+// Whether the presence has exactly these live tags, and its copy equals it.
 fn is_live(presence: &Presence, wanted: &[Stamp]) -> Result<bool, CellFault> {
     let tags = presence.live_tags()?;
     let copy = presence.try_clone()?;
@@ -41,7 +41,8 @@ fn is_live(presence: &Presence, wanted: &[Stamp]) -> Result<bool, CellFault> {
     Ok(tags.as_slice() == wanted && is_there && copy == *presence)
 }
 
-// The same of the first marks, to which a presence with the others is joined.
+// Whether a presence with the first marks, joined with one that has the other marks, has exactly
+// these live tags, and its copy equals it.
 fn leave(
     alloc: Global,
     marks: &[AppliedOps],
@@ -70,7 +71,7 @@ fn keeps_what_no_removal_lists(rt: HostRuntime) -> Result<(), Fail> {
     Ok(())
 }
 
-// The stamps of a replica, from the greatest on.
+// 200 stamps of one replica, in falling order.
 fn falling(replica: Replica) -> Result<[Stamp; 200], StampFault> {
     let mut stamps = [Stamp::new(1, replica, 1)?; 200];
     for i in 0..200u8 {
@@ -79,7 +80,7 @@ fn falling(replica: Replica) -> Result<[Stamp; 200], StampFault> {
     Ok(stamps)
 }
 
-// Gives an item these tags.
+// Adds these tags to an item.
 fn add_tags<M: Allocator + Copy>(
     presence: &mut Presence<M>,
     stamps: &[Stamp],
@@ -101,7 +102,7 @@ fn mark<M: Allocator + Copy>(
     add_tags(presence, stamps)
 }
 
-// Whether a presence shows that these are all its live tags, from the greatest on.
+// Whether exactly these are the live tags of a presence, given in falling order.
 fn has_live<M: Allocator + Copy>(
     presence: &Presence<M>,
     stamps: &[Stamp],
@@ -111,7 +112,7 @@ fn has_live<M: Allocator + Copy>(
     Ok(tags.as_slice() == stamps && presence.is_present() != stamps.is_empty())
 }
 
-// The same of one that gets them.
+// Whether a presence shows these tags after they are added to it.
 fn shows_tags<M: Allocator + Copy>(
     presence: &mut Presence<M>,
     stamps: &[Stamp],
@@ -140,7 +141,7 @@ fn marked<M: Allocator + Copy>(memory: M, stamps: &[Stamp]) -> Result<Presence<M
     }
 }
 
-// Whether no tag is live once a presence with the second marks is joined to one with the first.
+// Whether no tag is live after a presence with the second marks is joined to one with the first.
 fn joins_removed<M: Allocator + Copy>(
     presence: &mut Presence<M>,
     memory: M,
@@ -151,7 +152,7 @@ fn joins_removed<M: Allocator + Copy>(
     has_live(presence, &[])
 }
 
-/// What takes memory for presences.
+/// Work on presences that allocates.
 #[derive(Clone, Copy)]
 enum Work {
     LiveTags,
@@ -159,7 +160,7 @@ enum Work {
     Join,
 }
 
-// Whether a presence comes to what it should by this work.
+// Whether this work gives the expected result.
 fn succeeds<M: Allocator + Copy>(
     memory: M,
     work: Work,
@@ -173,7 +174,7 @@ fn succeeds<M: Allocator + Copy>(
     }
 }
 
-// How often memory is asked for, where this succeeds and each growth is refused as that.
+// The number of allocations of this work, if it succeeds and each failing one is reported as such.
 fn refusals(alloc: Global, work: Work, stamps: (&[Stamp], &[Stamp])) -> Option<u64> {
     let granted = Refusing::new(alloc, u64::MAX);
     if succeeds(&granted, work, stamps) != Ok(true) {
@@ -188,13 +189,14 @@ fn refusals(alloc: Global, work: Work, stamps: (&[Stamp], &[Stamp])) -> Option<u
     Some(granted.allocations())
 }
 
-// The first of the stamps.
+// The first `count` stamps.
 fn some_of(stamps: &[Stamp], count: usize) -> &[Stamp] {
     stamps.get(..count).unwrap_or(stamps)
 }
 
-// row: refused_growths Of many tags that are given or copied, and of two sets of each presence that
-// are joined; none without marks, and none of two tags that are removed and copied.
+// Giving and copying many tags allocates, and so does joining two sets of each presence. Without
+// marks nothing allocates, nor does removing and copying two tags.
+// row: refused_growths
 #[test]
 fn refuses_each_allocation(rt: HostRuntime) -> Result<(), Fail> {
     let (ours, theirs) = (falling(A)?, falling(B)?);

@@ -1,4 +1,5 @@
-//! The segments of many spans beside a plain body, which looks through all spans at each cut.
+//! The segments of many spans, compared with a plain version that looks through all spans at each
+//! cut.
 
 use super::{segments_of, span};
 use mt_overlap::{Segment, Span};
@@ -10,7 +11,7 @@ fn end_of(span: &Span) -> u64 {
     u64::from(span.start) + u64::from(span.len)
 }
 
-// Where a segment may begin or end, in order.
+// The frames at which a segment may begin or end, in order.
 fn cuts(alloc: Global, spans: &[Span]) -> Result<Vec<u64>, Fail> {
     let mut cuts = Vec::new(alloc);
     for span in spans {
@@ -34,7 +35,7 @@ fn top(spans: &[Span], frame: u64) -> Option<usize> {
     top
 }
 
-// One more segment, or a longer last one.
+// Adds a segment, or extends the last one.
 fn put(plain: &mut Vec<Segment>, start: u64, end: u64, which: usize) -> Result<(), Fail> {
     if start == end {
         return Ok(());
@@ -49,7 +50,7 @@ fn put(plain: &mut Vec<Segment>, start: u64, end: u64, which: usize) -> Result<(
     Ok(())
 }
 
-// The plain body.
+// The segments by the plain version.
 fn plain(alloc: Global, spans: &[Span]) -> Result<Vec<Segment>, Fail> {
     let cuts = cuts(alloc, spans)?;
     let mut plain = Vec::new(alloc);
@@ -64,7 +65,7 @@ fn plain(alloc: Global, spans: &[Span]) -> Result<Vec<Segment>, Fail> {
     Ok(plain)
 }
 
-// A thousand spans with the clocks 1, 2 and so on, each within the one before.
+// A thousand spans with the clocks 1, 2 and so on, each inside the one before.
 fn nested(alloc: Global) -> Result<Vec<Span>, Fail> {
     let mut spans = Vec::new(alloc);
     for index in 0..1000 {
@@ -73,7 +74,7 @@ fn nested(alloc: Global) -> Result<Vec<Span>, Fail> {
     Ok(spans)
 }
 
-// How many segments they have, where the plain body gives the same.
+// The number of their segments, if the plain version gives the same ones.
 fn agreeing(alloc: Global) -> Result<usize, Fail> {
     let spans = nested(alloc)?;
     let found = segments_of(alloc, &spans)?;

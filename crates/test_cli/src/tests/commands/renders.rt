@@ -1,4 +1,4 @@
-//! Wave files that the program writes, and what it refuses to write.
+//! Wave files that the program writes, and calls that fail.
 
 use super::logs::{
     BOTH_CLIPS, EMPTY, LAST_FRAME, LENGTHENED, LOW_CLIP, MARKED, MARKED_AT_END, MUTED, ONE_CLIP,
@@ -45,7 +45,20 @@ const FILE_WITH_MARKER_LENGTH: Story = Story {
         Run::Makes("render out log r", ("out", LENGTH_FILE), ""),
         Run::Prints(
             "info out",
-            "digest 18a6d10d83094e57c0f66dc88e31093f124272258d4fa449c005fd3e8c7121fc\nrate 48000\nchannels 1\nbits 24\nframes 3\nbext 0\ndescription \noriginator \nreference \ndate 2000-01-01\ntime 00:00:00\ntime-reference 0\nhistory A=PCM,F=48000,W=24,M=mono\\x0d\\x0a\ncue 1 at 1 len 2 label News\n",
+            "digest 18a6d10d83094e57c0f66dc88e31093f124272258d4fa449c005fd3e8c7121fc\n\
+             rate 48000\n\
+             channels 1\n\
+             bits 24\n\
+             frames 3\n\
+             bext 0\n\
+             description \n\
+             originator \n\
+             reference \n\
+             date 2000-01-01\n\
+             time 00:00:00\n\
+             time-reference 0\n\
+             history A=PCM,F=48000,W=24,M=mono\\x0d\\x0a\n\
+             cue 1 at 1 len 2 label News\n",
         ),
         Run::Makes("render out short r", ("out", MARKED_FILE), ""),
     ],
@@ -80,7 +93,10 @@ const REFUSED_FORMATS: Story = Story {
         Run::Refused("render out log --date 2024-5-01", "radio: fault 36\n"),
         Run::Makes("render out log --date 2024-99-99", ("out", DATED_FILE), ""),
         Run::Refused(
-            "render out log --description ddddddddddddddddddddddddddddddddddddddddddddddddddddddddddddddddddddddddddddddddddddddddddddddddddddddddddddddddddddddddddddddddddddddddddddddddddddddddddddddddddddddddddddddddddddddddddddddddddddddddddddddddddddddddddddddddddddddddddddddddddddddddddddddddd",
+            "render out log --description \
+             dddddddddddddddddddddddddddddddddddddddddddddddddddddddddddddddddddddddddddddddddddddd\
+             dddddddddddddddddddddddddddddddddddddddddddddddddddddddddddddddddddddddddddddddddddddd\
+             ddddddddddddddddddddddddddddddddddddddddddddddddddddddddddddddddddddddddddddddddddddd",
             "radio: fault 36\n",
         ),
     ],

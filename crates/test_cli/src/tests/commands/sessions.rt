@@ -66,11 +66,19 @@ const FOUR_PLACES: Story = Story {
     runs: &[
         Run::Prints(
             "view a b",
-            "track 3.2.00000000-0000-0000-0000-00000000000b gain 1/1 mute off title z\ntrack 1.1.00000000-0000-0000-0000-00000000000a gain 1/1 mute off title a\ntrack 2.1.00000000-0000-0000-0000-00000000000b gain 1/1 mute off title y\ntrack 2.2.00000000-0000-0000-0000-00000000000a gain 1/1 mute off title x\nheld 0\n",
+            "track 3.2.00000000-0000-0000-0000-00000000000b gain 1/1 mute off title z\n\
+             track 1.1.00000000-0000-0000-0000-00000000000a gain 1/1 mute off title a\n\
+             track 2.1.00000000-0000-0000-0000-00000000000b gain 1/1 mute off title y\n\
+             track 2.2.00000000-0000-0000-0000-00000000000a gain 1/1 mute off title x\n\
+             held 0\n",
         ),
         Run::Prints(
             "view b a",
-            "track 3.2.00000000-0000-0000-0000-00000000000b gain 1/1 mute off title z\ntrack 1.1.00000000-0000-0000-0000-00000000000a gain 1/1 mute off title a\ntrack 2.1.00000000-0000-0000-0000-00000000000b gain 1/1 mute off title y\ntrack 2.2.00000000-0000-0000-0000-00000000000a gain 1/1 mute off title x\nheld 0\n",
+            "track 3.2.00000000-0000-0000-0000-00000000000b gain 1/1 mute off title z\n\
+             track 1.1.00000000-0000-0000-0000-00000000000a gain 1/1 mute off title a\n\
+             track 2.1.00000000-0000-0000-0000-00000000000b gain 1/1 mute off title y\n\
+             track 2.2.00000000-0000-0000-0000-00000000000a gain 1/1 mute off title x\n\
+             held 0\n",
         ),
     ],
 };
@@ -82,19 +90,31 @@ const MOVED_TRACKS: Story = Story {
     runs: &[
         Run::Prints(
             "view log",
-            "track 1.1.00000000-0000-0000-0000-00000000000a gain 1/1 mute off title p\ntrack 2.2.00000000-0000-0000-0000-00000000000a gain 1/1 mute off title q\ntrack 3.3.00000000-0000-0000-0000-00000000000a gain 1/1 mute off title r\nheld 0\n",
+            "track 1.1.00000000-0000-0000-0000-00000000000a gain 1/1 mute off title p\n\
+             track 2.2.00000000-0000-0000-0000-00000000000a gain 1/1 mute off title q\n\
+             track 3.3.00000000-0000-0000-0000-00000000000a gain 1/1 mute off title r\n\
+             held 0\n",
         ),
         Run::Prints(
             "view log a",
-            "track 2.2.00000000-0000-0000-0000-00000000000a gain 1/1 mute off title q\ntrack 1.1.00000000-0000-0000-0000-00000000000a gain 1/1 mute off title p\ntrack 3.3.00000000-0000-0000-0000-00000000000a gain 1/1 mute off title r\nheld 0\n",
+            "track 2.2.00000000-0000-0000-0000-00000000000a gain 1/1 mute off title q\n\
+             track 1.1.00000000-0000-0000-0000-00000000000a gain 1/1 mute off title p\n\
+             track 3.3.00000000-0000-0000-0000-00000000000a gain 1/1 mute off title r\n\
+             held 0\n",
         ),
         Run::Prints(
             "view log a b",
-            "track 2.2.00000000-0000-0000-0000-00000000000a gain 1/1 mute off title q\ntrack 3.3.00000000-0000-0000-0000-00000000000a gain 1/1 mute off title r\ntrack 1.1.00000000-0000-0000-0000-00000000000a gain 1/1 mute off title p\nheld 0\n",
+            "track 2.2.00000000-0000-0000-0000-00000000000a gain 1/1 mute off title q\n\
+             track 3.3.00000000-0000-0000-0000-00000000000a gain 1/1 mute off title r\n\
+             track 1.1.00000000-0000-0000-0000-00000000000a gain 1/1 mute off title p\n\
+             held 0\n",
         ),
         Run::Prints(
             "view b a log",
-            "track 2.2.00000000-0000-0000-0000-00000000000a gain 1/1 mute off title q\ntrack 3.3.00000000-0000-0000-0000-00000000000a gain 1/1 mute off title r\ntrack 1.1.00000000-0000-0000-0000-00000000000a gain 1/1 mute off title p\nheld 0\n",
+            "track 2.2.00000000-0000-0000-0000-00000000000a gain 1/1 mute off title q\n\
+             track 3.3.00000000-0000-0000-0000-00000000000a gain 1/1 mute off title r\n\
+             track 1.1.00000000-0000-0000-0000-00000000000a gain 1/1 mute off title p\n\
+             held 0\n",
         ),
     ],
 };
@@ -133,15 +153,21 @@ const MOVED_AND_REMOVED_CLIP: Story = Story {
     runs: &[
         Run::Prints(
             "view log moved gone",
-            "track 1.1.00000000-0000-0000-0000-00000000000a gain 1/1 mute off title Voice\nheld 0\n",
+            "track 1.1.00000000-0000-0000-0000-00000000000a gain 1/1 mute off title Voice\n\
+             held 0\n",
         ),
         Run::Prints(
             "view gone moved log",
-            "track 1.1.00000000-0000-0000-0000-00000000000a gain 1/1 mute off title Voice\nheld 0\n",
+            "track 1.1.00000000-0000-0000-0000-00000000000a gain 1/1 mute off title Voice\n\
+             held 0\n",
         ),
         Run::Prints(
             "view log moved back",
-            "track 1.1.00000000-0000-0000-0000-00000000000a gain 1/1 mute off title Voice\nclip 2.2.00000000-0000-0000-0000-00000000000a place 5.1.00000000-0000-0000-0000-00000000000b at 70 offset 10 len 20 gain 1/1 mute off source ba7816bf8f01cfea414140de5dae2223b00361a396177a9cb410ff61f20015ad\nheld 0\n",
+            "track 1.1.00000000-0000-0000-0000-00000000000a gain 1/1 mute off title Voice\n\
+             clip 2.2.00000000-0000-0000-0000-00000000000a place \
+             5.1.00000000-0000-0000-0000-00000000000b at 70 offset 10 len 20 gain 1/1 mute off \
+             source ba7816bf8f01cfea414140de5dae2223b00361a396177a9cb410ff61f20015ad\n\
+             held 0\n",
         ),
     ],
 };
@@ -161,7 +187,9 @@ const WRONG_ROLE: Story = Story {
         ),
         Run::Prints(
             "view log tag",
-            "marker 1.1.00000000-0000-0000-0000-00000000000b at 7 title Sport\nmarker 1.1.00000000-0000-0000-0000-00000000000a at 480 title News\nheld 1\n",
+            "marker 1.1.00000000-0000-0000-0000-00000000000b at 7 title Sport\n\
+             marker 1.1.00000000-0000-0000-0000-00000000000a at 480 title News\n\
+             held 1\n",
         ),
     ],
 };
@@ -186,7 +214,12 @@ const REMOVED_TRACK_HIDES_ITS_CLIP: Story = Story {
         ),
         Run::Prints(
             "view log back clip",
-            "track 1.1.00000000-0000-0000-0000-00000000000a gain 1/1 mute off title p\nclip 2.1.00000000-0000-0000-0000-00000000000b place 2.1.00000000-0000-0000-0000-00000000000b at 0 offset 10 len 20 gain 1/1 mute off source ba7816bf8f01cfea414140de5dae2223b00361a396177a9cb410ff61f20015ad\ntrack 2.2.00000000-0000-0000-0000-00000000000a gain 1/1 mute off title q\nheld 0\n",
+            "track 1.1.00000000-0000-0000-0000-00000000000a gain 1/1 mute off title p\n\
+             clip 2.1.00000000-0000-0000-0000-00000000000b place \
+             2.1.00000000-0000-0000-0000-00000000000b at 0 offset 10 len 20 gain 1/1 mute off \
+             source ba7816bf8f01cfea414140de5dae2223b00361a396177a9cb410ff61f20015ad\n\
+             track 2.2.00000000-0000-0000-0000-00000000000a gain 1/1 mute off title q\n\
+             held 0\n",
         ),
     ],
 };
@@ -198,11 +231,19 @@ const TWO_FADES: Story = Story {
     runs: &[
         Run::Prints(
             "view log a b",
-            "track 1.1.00000000-0000-0000-0000-00000000000a gain 1/1 mute off title V\nclip 2.2.00000000-0000-0000-0000-00000000000a place 2.2.00000000-0000-0000-0000-00000000000a at 0 offset 0 len 3 gain 1/1 mute off fade 5 0 source 0000000000000000000000000000000000000000000000000000000000000000\nheld 0\n",
+            "track 1.1.00000000-0000-0000-0000-00000000000a gain 1/1 mute off title V\n\
+             clip 2.2.00000000-0000-0000-0000-00000000000a place \
+             2.2.00000000-0000-0000-0000-00000000000a at 0 offset 0 len 3 gain 1/1 mute off fade 5 \
+             0 source 0000000000000000000000000000000000000000000000000000000000000000\n\
+             held 0\n",
         ),
         Run::Prints(
             "view b a log",
-            "track 1.1.00000000-0000-0000-0000-00000000000a gain 1/1 mute off title V\nclip 2.2.00000000-0000-0000-0000-00000000000a place 2.2.00000000-0000-0000-0000-00000000000a at 0 offset 0 len 3 gain 1/1 mute off fade 5 0 source 0000000000000000000000000000000000000000000000000000000000000000\nheld 0\n",
+            "track 1.1.00000000-0000-0000-0000-00000000000a gain 1/1 mute off title V\n\
+             clip 2.2.00000000-0000-0000-0000-00000000000a place \
+             2.2.00000000-0000-0000-0000-00000000000a at 0 offset 0 len 3 gain 1/1 mute off fade 5 \
+             0 source 0000000000000000000000000000000000000000000000000000000000000000\n\
+             held 0\n",
         ),
     ],
 };
@@ -226,12 +267,21 @@ const COMMAND_LINES: Story = Story {
         Run::Refused("view", "radio: fault 11\n"),
         Run::Mistaken(
             "frob",
-            "error: unrecognized subcommand 'frob'\n\nUsage: radio [OPTIONS] <COMMAND>\n\nFor more information, try '--help'.\n",
+            "error: unrecognized subcommand 'frob'\n\
+             \n\
+             Usage: radio [OPTIONS] <COMMAND>\n\
+             \n\
+             For more information, try '--help'.\n",
         ),
         Run::Refused("meet 127.0.0.1:1 o p", "radio: fault 46\n"),
         Run::Prints(
             "info wave",
-            "digest 86d5a4911f7d5c5ca3863834be58689dda571545bc821af9b727fc9259a352cc\nrate 44100\nchannels 1\nbits 8\nframes 1\nbext none\n",
+            "digest 86d5a4911f7d5c5ca3863834be58689dda571545bc821af9b727fc9259a352cc\n\
+             rate 44100\n\
+             channels 1\n\
+             bits 8\n\
+             frames 1\n\
+             bext none\n",
         ),
     ],
 };
@@ -266,7 +316,12 @@ const SCRIPT: Story = Story {
         ),
         Run::Prints(
             "view out",
-            "track 1.1.00000000-0000-0000-0000-00000000000a gain 1/1 mute off title Voice\nclip 2.2.00000000-0000-0000-0000-00000000000a place 2.2.00000000-0000-0000-0000-00000000000a at 0 offset 10 len 20 gain 1/2 mute off source ba7816bf8f01cfea414140de5dae2223b00361a396177a9cb410ff61f20015ad\nmarker 4.4.00000000-0000-0000-0000-00000000000a at 480 title News\nheld 0\n",
+            "track 1.1.00000000-0000-0000-0000-00000000000a gain 1/1 mute off title Voice\n\
+             clip 2.2.00000000-0000-0000-0000-00000000000a place \
+             2.2.00000000-0000-0000-0000-00000000000a at 0 offset 10 len 20 gain 1/2 mute off \
+             source ba7816bf8f01cfea414140de5dae2223b00361a396177a9cb410ff61f20015ad\n\
+             marker 4.4.00000000-0000-0000-0000-00000000000a at 480 title News\n\
+             held 0\n",
         ),
         Run::Refused(
             "edit 00000000-0000-0000-0000-00000000000a log bad new",

@@ -1,4 +1,4 @@
-//! What waits for others.
+//! Operations that wait for others.
 
 use mt_holdback::{HoldBack, HoldBackFault, Offered, Waits};
 use mt_op::Op;

@@ -1,5 +1,5 @@
-//! Seventeen operations with all bodies, which an editor makes or takes, some of them early: what
-//! it answers, what it keeps, and what is left of it where an allocation fails.
+//! Seventeen operations with all kinds of bodies, which an editor creates or applies, some of them
+//! early: its answers, its log, and its state after a failing allocation.
 
 use super::histories::{Answer, counts, edit, is_alike, take};
 use super::operations::{Act, Name, op_of};
@@ -11,7 +11,7 @@ use mt_stamp::{Replica, Stamp, StampFault};
 use std::alloc::{Allocator, Global};
 use test_kit::{A, B, Refusing};
 
-// The operations, counted from 1.
+// The number of operations, which are counted from 1.
 const STEPS: u64 = 17;
 
 // The stamp of an operation.
@@ -19,7 +19,7 @@ fn made_at(step: u64) -> Result<Stamp, StampFault> {
     Stamp::new(step, A, step)
 }
 
-// The first: two tracks, and a clip that is put on one and then on the other.
+// The first operations: two tracks, and a clip that is placed on one and then on the other.
 fn placing(step: u64) -> Result<Act, StampFault> {
     let (first, second, clip) = (made_at(1)?, made_at(2)?, made_at(3)?);
     Ok(match step {
@@ -30,7 +30,7 @@ fn placing(step: u64) -> Result<Act, StampFault> {
     })
 }
 
-// Those after them: the tracks change places, that of the clip is removed and returns, the clip is
+// The next ones: the tracks swap places, the clip's track is removed and restored, and the clip is
 // trimmed and muted.
 fn changing(step: u64) -> Result<Act, StampFault> {
     let (first, second, clip) = (made_at(1)?, made_at(2)?, made_at(3)?);
@@ -45,7 +45,7 @@ fn changing(step: u64) -> Result<Act, StampFault> {
     })
 }
 
-// The last: a marker, which then moves, fades of the clip, and a length of the marker; a third
+// The last ones: a marker, which then moves, fades of the clip, a length of the marker, a third
 // track, and a clip on it.
 fn adding(step: u64) -> Result<Act, StampFault> {
     let (clip, marker, third) = (made_at(3)?, made_at(12)?, made_at(16)?);
@@ -69,15 +69,15 @@ fn act_at(step: u64) -> Result<Act, StampFault> {
     changing(step)
 }
 
-// How an editor comes to them: by taking what A made, or by edits, as A.
+// How an editor gets them: it applies what A created, or makes the edits itself, as A.
 #[derive(Clone, Copy, PartialEq, Eq)]
 enum Way {
     Take,
     Edit,
 }
 
-// The operation that comes as this one. What is taken comes in another order: the move of the
-// marker before the marker, and the last clip before its track.
+// The operation that arrives at this position. Applied operations arrive in another order: the move
+// of the marker before the marker, and the last clip before its track.
 fn step_of(way: Way, number: u64) -> u64 {
     match (way, number) {
         (Way::Take, 12) => 13,
@@ -88,7 +88,7 @@ fn step_of(way: Way, number: u64) -> u64 {
     }
 }
 
-// What an editor answers; none where the operation or the change is not made.
+// The answer of an editor; `None` if the operation or the change cannot be built.
 fn answer_to<M: Allocator + Copy>(
     editor: &mut Editor<M>,
     memory: M,
@@ -103,8 +103,8 @@ fn answer_to<M: Allocator + Copy>(
     }
 }
 
-// Whether it answers what it has to: an edit makes the operation of its stamp, and what is taken
-// early is held until what it names comes.
+// Whether the answer is right: an edit creates the operation with its stamp, and an operation that
+// is applied early is held until the items that it names arrive.
 fn is_answer(way: Way, number: u64, answer: &Result<Answer, EditorFault>) -> bool {
     let Ok(stamp) = made_at(number) else {
         return false;
@@ -127,7 +127,7 @@ fn op_at<M: Allocator>(memory: M, step: u64) -> Option<Op<M>> {
     op_of(memory, stamp, act).ok()
 }
 
-// The log of all, or of all but the marker and the third track.
+// The log of all operations, or of all but the marker and the third track.
 fn log_of<M: Allocator + Copy>(memory: M, is_whole: bool) -> Option<Log<M>> {
     let mut log = Log::new(memory);
     for before in 0..STEPS {
@@ -139,7 +139,7 @@ fn log_of<M: Allocator + Copy>(memory: M, is_whole: bool) -> Option<Log<M>> {
     Some(log)
 }
 
-// Whether an editor has that log and its session.
+// Whether an editor has this log and its session.
 fn is_editor_of<M: Allocator + Copy>(editor: &Editor<M>, memory: M, is_whole: bool) -> bool {
     match (editor.log(), log_of(memory, is_whole)) {
         (Some(log), Some(wanted)) => *log == wanted && is_alike(memory, editor),
@@ -147,7 +147,7 @@ fn is_editor_of<M: Allocator + Copy>(editor: &Editor<M>, memory: M, is_whole: bo
     }
 }
 
-// The same; none where an allocation fails meanwhile.
+// Whether an editor has that log and its session; `None` if an allocation of the test fails.
 fn is_left<M: Allocator + Copy>(
     editor: &Editor<M>,
     memory: M,
@@ -161,7 +161,7 @@ fn is_left<M: Allocator + Copy>(
     Some(is_right)
 }
 
-// Whether an editor has failed: it has neither log nor session, and is asked in vain.
+// Whether an editor has failed: it has neither log nor session, and every call fails.
 fn has_failed<M: Allocator + Copy>(editor: &mut Editor<M>) -> bool {
     let Ok(item) = made_at(1) else {
         return false;
@@ -170,16 +170,16 @@ fn has_failed<M: Allocator + Copy>(editor: &mut Editor<M>) -> bool {
     again == Some(EditorFault::Failed) && editor.log().is_none() && editor.session().is_none()
 }
 
-// The operations come in this way, and after each the session is made from nothing where it is to
-// be compared.
+// The operations arrive in one of the ways. After each of them the session is rebuilt from the log
+// where it has to be compared.
 #[derive(Clone, Copy)]
 struct Steps {
     way: Way,
     compares: bool,
 }
 
-// Whether all are answered so, and leave the editor of the log of all; where an allocation fails in
-// a call, whether it answers `Memory` and has then failed.
+// Whether all answers are right and the editor ends with the log of all operations. If an
+// allocation fails in a call, whether the call returns `Memory` and the editor has failed.
 impl Work for Steps {
     fn name(&self) -> Replica {
         match self.way {
@@ -218,7 +218,7 @@ fn keeps_the_session_that_is_made_from_nothing(rt: HostRuntime) {
     }
 }
 
-// How many growths are refused in one way.
+// The number of failing allocations in one of the ways.
 fn refusals_in(alloc: Global, way: Way) -> Option<u64> {
     let compares = false;
     refusals(alloc, &Steps { way, compares })
@@ -236,7 +236,7 @@ fn fails_at_each_refused_allocation_of_an_edit(rt: HostRuntime) {
     assert!(rt; refusals_in(rt.alloc(), Way::Edit) > Some(50));
 }
 
-// An editor is made of a log of tracks, of a clip, and of what waits.
+// An editor is built from a log of tracks, a clip and a waiting operation.
 #[derive(Clone, Copy)]
 struct Waiting;
 

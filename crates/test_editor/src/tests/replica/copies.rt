@@ -1,5 +1,5 @@
-//! Copies and drafts of an editor, with each growth refused in turn: what they do leaves it as it
-//! was.
+//! Copies and drafts of an editor; each allocation fails in turn. Changing them leaves the editor
+//! unchanged.
 
 ghost use Rattle.std.specs.Prelude.{◌≢◌, None};
 
@@ -11,7 +11,7 @@ use mt_stamp::Stamp;
 use std::alloc::{Allocator, Global};
 use test_kit::{A, Refusing, log_of};
 
-// What a copy that has joined nothing has once it removed an item.
+// The counts of a copy, which has joined nothing, after it removed an item.
 fn removed<M: Allocator + Copy>(
     copy: &mut Editor<M>,
     item: Stamp,
@@ -35,7 +35,7 @@ fn copy_removes<M: Allocator + Copy>(
     }
 }
 
-// What the editor of a draft has.
+// The counts of the editor of a draft.
 fn counts_of<M: Allocator + Clone>(draft: Draft<M>) -> Result<Option<EditorCounts>, EditorFault>
     requires whole { draft.log ≢ None }
 {
@@ -43,7 +43,7 @@ fn counts_of<M: Allocator + Clone>(draft: Draft<M>) -> Result<Option<EditorCount
     Ok(counts(&editor))
 }
 
-// The same, where the draft was not refused memory.
+// The counts of the editor of a draft, if no allocation of the draft failed.
 fn counts_of_whole<M: Allocator + Clone>(
     draft: Draft<M>,
 ) -> Result<Option<EditorCounts>, EditorFault> {
@@ -53,12 +53,12 @@ fn counts_of_whole<M: Allocator + Clone>(
     counts_of(draft)
 }
 
-// Lets a draft remove an item; where it is refused memory it has failed.
+// Lets a draft remove an item. If an allocation fails, the draft has failed.
 fn remove_in<M: Allocator + Clone>(draft: &mut Draft<M>, item: Stamp) {
     let _ = draft.edit(&Change::Remove { item });
 }
 
-// What the copy of a draft has that removed this item.
+// The counts of a copy of a draft that removed this item.
 fn copy_of_draft_removes<M: Allocator + Clone>(
     draft: &Draft<M>,
     item: Stamp,
@@ -78,14 +78,14 @@ fn draft_removes<M: Allocator + Clone>(
     }
 }
 
-// What is made of an editor.
+// What is made from an editor.
 #[derive(Clone, Copy, PartialEq, Eq)]
 enum Made {
     Copy,
     Draft,
 }
 
-// Whether it removes the marker, where no growth is refused, and the editor has it as before.
+// Whether it removes the marker if no allocation fails, and the editor still has the marker.
 fn leaves<M: Allocator + Copy>(
     editor: &Editor<M>,
     item: Stamp,

@@ -1,4 +1,4 @@
-//! The session that an editor keeps through worked examples, in every order of their operations.
+//! The session that an editor maintains in worked examples, for every order of their operations.
 
 use super::histories::{is_alike, take};
 use super::operations::{Act, Name};
@@ -10,8 +10,8 @@ use mt_stamp::{Stamp, StampFault};
 use std::alloc::{Allocator, Global};
 use test_kit::{A, B, Refusing};
 
-// Whether an editor's session is the one that is made from nothing of its log after it was given an
-// operation. One that it is refused for another reason than memory leaves it as it was.
+// Whether an editor's session equals the one rebuilt from its log after an operation was applied.
+// An operation that fails for another reason than memory leaves the editor unchanged.
 fn is_alike_with<M: Allocator + Copy>(
     editor: &mut Editor<M>,
     memory: M,
@@ -34,8 +34,8 @@ fn has_text<M: Allocator + Clone>(alloc: Global, editor: &Editor<M>, text: &str)
     is_written && output.into_inner().as_slice() == text.as_bytes()
 }
 
-// Operations in the order of a number, and the text of their session. The numbers below the product
-// of 1 to their count are all orders; 0 is the one in which they are listed.
+// Operations, the number of an order, and the text of their session. The numbers below n! are all
+// orders of n operations; order 0 is the listed one.
 #[derive(Clone, Copy)]
 struct Example<'o> {
     ops: &'o [(Stamp, Act)],
@@ -68,7 +68,7 @@ impl Work for Example<'_> {
     }
 }
 
-// Whether that is so in the first so many orders.
+// Whether this holds in the first `orders` orders.
 fn keeps(alloc: Global, ops: &[(Stamp, Act)], orders: usize, text: &str) -> bool {
     for order in 0..orders {
         if !is_done(alloc, &Example { ops, order, text }) {
@@ -104,7 +104,7 @@ fn keeps_titles_in_any_order(rt: HostRuntime) {
     assert!(rt; retitles(rt.alloc()) == Ok(true));
 }
 
-// A marker three times, and another operation of its stamp; and the other one first.
+// A marker three times, and another operation with its stamp; then with the other one first.
 fn repeats(alloc: Global) -> Result<bool, StampFault> {
     let item = Stamp::new(1, A, 1)?;
     let news = (item, Act::AddMarker(Name::News));
@@ -119,7 +119,7 @@ marker 1.7.00000000-0000-0000-0000-00000000000b at 480 title Y
 held 0
 ";
 
-// Two replicas' markers, a new title, and another operation of a dot that is there.
+// Two replicas' markers, a new title, and another operation with an existing dot.
 fn three_logs(alloc: Global) -> Result<bool, StampFault> {
     let item = Stamp::new(1, A, 1)?;
     let news = (item, Act::AddMarker(Name::News));
@@ -146,7 +146,7 @@ track 2.2.00000000-0000-0000-0000-00000000000a gain 1/1 mute off title Voice
 held 0
 ";
 
-// At the head, two after it, and one more at the head.
+// One place at the head, two after it, and one more at the head.
 fn places(alloc: Global) -> Result<bool, StampFault> {
     let first = Stamp::new(1, A, 1)?;
     let ops = [
@@ -178,7 +178,7 @@ track 1.1.00000000-0000-0000-0000-00000000000a gain 1/1 mute off title Voice
 held 0
 ";
 
-// Three tracks in a row; the first is moved after the second, and after the third.
+// Three tracks in a row. The first is moved after the second, and concurrently after the third.
 fn moved_tracks(alloc: Global) -> Result<bool, StampFault> {
     let (p, q, r) = (
         Stamp::new(1, A, 1)?,
@@ -201,7 +201,7 @@ fn keeps_moved_tracks_in_any_order(rt: HostRuntime) {
     assert!(rt; moved_tracks(rt.alloc()) == Ok(true));
 }
 
-// A marker that is removed and restored at once, and removed with both tags.
+// A marker that is removed and restored concurrently, and then removed with both tags.
 fn removed_marker(alloc: Global) -> Result<bool, StampFault> {
     let (item, restored) = (Stamp::new(1, A, 1)?, Stamp::new(2, B, 1)?);
     let ops = [
@@ -226,11 +226,13 @@ held 0
 
 const CLIP_AT_70: &str = "\
 track 1.1.00000000-0000-0000-0000-00000000000a gain 1/1 mute off title Voice
-clip 2.2.00000000-0000-0000-0000-00000000000a place 5.1.00000000-0000-0000-0000-00000000000b at 70 offset 10 len 20 gain 1/1 mute off source 0707070707070707070707070707070707070707070707070707070707070707
+clip 2.2.00000000-0000-0000-0000-00000000000a place 5.1.00000000-0000-0000-0000-00000000000b at 70 \
+offset 10 len 20 gain 1/1 mute off source \
+0707070707070707070707070707070707070707070707070707070707070707
 held 0
 ";
 
-// A clip is moved and removed at once, and restored.
+// A clip that is moved and removed concurrently, and then restored.
 fn removed_clip(alloc: Global) -> Result<bool, StampFault> {
     let (track, clip) = (Stamp::new(1, A, 1)?, Stamp::new(2, A, 2)?);
     let ops = [

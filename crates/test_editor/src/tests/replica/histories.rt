@@ -1,4 +1,4 @@
-//! What an editor answers step by step, and what there is after each.
+//! An editor's answers step by step, and its counts after each step.
 
 use super::operations::{Act, change_of, op_of};
 use crate::tests::works::{Work, has_news, is_done};
@@ -10,15 +10,15 @@ use mt_stamp::{Replica, Stamp};
 use std::alloc::{Allocator, Global};
 use test_kit::{B, Refusing, log_of};
 
-/// An editor is asked to take an operation of this stamp, or to make an edit.
+/// A step: an editor applies an operation with this stamp, or makes an edit.
 #[derive(Clone, Copy)]
 pub(crate) enum Step {
     Take(Stamp, Act),
     Edit(Act),
 }
 
-/// What comes of a step: what became of the operation, and how many became ready by it; the stamp
-/// of the one that an edit made, and the tag that it lists where it removes by one.
+/// The answer to a step: for an applied operation its outcome, and how many operations became
+/// ready; for an edit the stamp of the new operation, and the tag that a Remove of one tag lists.
 #[derive(Clone, Copy, PartialEq, Eq)]
 pub(crate) enum Answer {
     Already,
@@ -28,10 +28,11 @@ pub(crate) enum Answer {
     Removed(Stamp, Stamp),
 }
 
-/// How many operations an editor has, how many it holds back, and how many markers it shows.
+/// The number of operations that an editor has, the number that it holds back, and the number of
+/// markers in its session.
 pub(crate) type EditorCounts = (usize, u64, usize);
 
-/// A step, its answer, and what there is after it.
+/// A step, its answer, and the counts after it.
 pub(crate) type Row = (Step, Result<Answer, EditorFault>, EditorCounts);
 
 fn told<M: Allocator>(taken: &Taken<M>) -> Answer {
@@ -49,7 +50,7 @@ fn take_op<M: Allocator + Copy>(editor: &mut Editor<M>, op: Op<M>) -> Result<Ans
     }
 }
 
-/// Takes the operation of an act; none where that is not made.
+/// Applies the operation of an act; `None` if it cannot be built.
 pub(crate) fn take<M: Allocator + Copy>(
     editor: &mut Editor<M>,
     memory: M,
@@ -82,7 +83,7 @@ fn make<M: Allocator + Copy>(
     }
 }
 
-/// Makes the edit of an act; none where its change is not made.
+/// Makes the edit of an act; `None` if its change cannot be built.
 pub(crate) fn edit<M: Allocator + Copy>(
     editor: &mut Editor<M>,
     memory: M,
@@ -94,14 +95,14 @@ pub(crate) fn edit<M: Allocator + Copy>(
     }
 }
 
-/// What an editor has; none where it has failed.
+/// The counts of an editor; `None` if it has failed.
 pub(crate) fn counts<M: Allocator + Clone>(editor: &Editor<M>) -> Option<EditorCounts> {
     let log = editor.log()?;
     let session = editor.session()?;
     Some((log.len(), session.held, session.markers.items().len()))
 }
 
-// Whether a session is the one that is made from nothing of a log.
+// Whether a session is the one rebuilt from a log.
 fn is_made_of<M: Allocator + Copy>(memory: M, session: &Session<M>, log: &Log<M>) -> bool {
     match from_scratch(memory, log) {
         Ok(made) => *session == made,
@@ -109,7 +110,7 @@ fn is_made_of<M: Allocator + Copy>(memory: M, session: &Session<M>, log: &Log<M>
     }
 }
 
-/// Whether the session that an editor keeps is the one that is made from nothing of its log.
+/// Whether the session that an editor maintains is the one rebuilt from its log.
 pub(crate) fn is_alike<M: Allocator + Copy>(memory: M, editor: &Editor<M>) -> bool {
     match (editor.log(), editor.session()) {
         (Some(log), Some(session)) => is_made_of(memory, session, log),
@@ -117,7 +118,7 @@ pub(crate) fn is_alike<M: Allocator + Copy>(memory: M, editor: &Editor<M>) -> bo
     }
 }
 
-// Whether a step is answered as its row says, and leaves what it says and the session of its log.
+// Whether a step gives the answer and the counts of its row, and the session is that of the log.
 fn is_answered<M: Allocator + Copy>(editor: &mut Editor<M>, memory: M, row: &Row) -> bool {
     let (step, wanted, left) = *row;
     let answer = match step {
@@ -127,7 +128,7 @@ fn is_answered<M: Allocator + Copy>(editor: &mut Editor<M>, memory: M, row: &Row
     answer == Some(wanted) && counts(editor) == Some(left) && is_alike(memory, editor)
 }
 
-// The same of each row, one after another.
+// Whether each row is right, one after another.
 fn are_answered<M: Allocator + Copy>(editor: &mut Editor<M>, memory: M, rows: &[Row]) -> bool {
     for row in rows {
         if !is_answered(editor, memory, row) {
@@ -137,7 +138,8 @@ fn are_answered<M: Allocator + Copy>(editor: &mut Editor<M>, memory: M, rows: &[
     true
 }
 
-// The editor of this name begins with the log of a marker of this stamp, or with the empty log.
+// An editor with this name that starts with the log of one marker with this stamp, or with the
+// empty log.
 #[derive(Clone, Copy)]
 struct History<'r> {
     name: Replica,
@@ -168,7 +170,7 @@ impl Work for History<'_> {
     }
 }
 
-// Rows after which an editor of B has the marker `News`, the first of A, and nothing else.
+// Rows after which an editor of B has only the marker `News`, the first operation of A.
 #[derive(Clone, Copy)]
 struct Repeats<'r> {
     rows: &'r [Row],
@@ -186,19 +188,20 @@ impl Work for Repeats<'_> {
     }
 }
 
-/// Whether each row is so, and that marker is left, of an editor that begins with the empty log.
+/// Whether each row is right for an editor that starts with the empty log, and only that marker is
+/// left.
 pub(crate) fn leaves_news(alloc: Global, rows: &[Row]) -> bool {
     is_done(alloc, &Repeats { rows })
 }
 
-/// Whether each row is so, of an editor of B that begins with the empty log.
+/// Whether each row is right for an editor of B that starts with the empty log.
 pub(crate) fn is_history(alloc: Global, rows: &[Row]) -> bool {
     let (name, marker) = (B, None);
     is_done(alloc, &History { name, marker, rows })
 }
 
-/// The same of an editor of this name that begins with the log of a marker `News` at 480 of this
-/// stamp.
+/// Whether each row is right for an editor with this name that starts with the log of one marker
+/// `News` at 480 with this stamp.
 pub(crate) fn goes_on_with(alloc: Global, name: Replica, stamp: Stamp, rows: &[Row]) -> bool {
     let marker = Some(stamp);
     is_done(alloc, &History { name, marker, rows })

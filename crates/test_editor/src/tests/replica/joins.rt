@@ -1,4 +1,4 @@
-//! How many cells takes and edits join, and that they look at nothing else.
+//! How many cells an applied operation or an edit joins, and that no other cell is read.
 
 use super::histories::{Answer, edit, is_alike, take};
 use super::operations::{Act, Name};
@@ -9,14 +9,14 @@ use std::alloc::{Allocator, Global};
 use std::test::Fail;
 use test_kit::{A, B, Refusing};
 
-// How many markers there are before the new titles.
+// The number of markers before the new titles.
 const MARKERS: u64 = 1000;
 
-// How many growths a take or an edit of a new title is given.
+// The most allocations that a new title may make.
 const GROWTHS: u64 = 64;
 
-// What is asked for among the markers: a take of a new title of the first one, by B, or an edit of
-// the same after that, or a session that is made from nothing.
+// The work on the markers: B's new title of the first one is applied, then A edits its title, or a
+// session is rebuilt from the log.
 #[derive(Clone, Copy, PartialEq, Eq)]
 enum Work {
     Take,
@@ -28,7 +28,7 @@ fn stamp_of_b(number: u64) -> Result<Stamp, StampFault> {
     Stamp::new(number, B, number)
 }
 
-// Takes the marker of this number, and tells whether it is ready.
+// Applies the marker with this number, and returns whether it is ready.
 fn takes_marker<M: Allocator + Copy>(editor: &mut Editor<M>, memory: M, number: u64) -> bool {
     match stamp_of_b(number) {
         Ok(item) => {
@@ -39,7 +39,7 @@ fn takes_marker<M: Allocator + Copy>(editor: &mut Editor<M>, memory: M, number: 
     }
 }
 
-// Takes all markers.
+// Applies all markers.
 fn takes_markers<M: Allocator + Copy>(editor: &mut Editor<M>, memory: M) -> bool {
     for number in 0..MARKERS {
         if !takes_marker(editor, memory, number.saturating_add(1)) {
@@ -49,7 +49,7 @@ fn takes_markers<M: Allocator + Copy>(editor: &mut Editor<M>, memory: M) -> bool
     true
 }
 
-// Makes the session of the log from nothing, beside the one that is kept.
+// Rebuilds the session from the log, next to the one that the editor maintains.
 fn made_from_nothing<M: Allocator + Copy>(
     editor: &Editor<M>,
     memory: M,
@@ -61,7 +61,7 @@ fn made_from_nothing<M: Allocator + Copy>(
     }
 }
 
-// What comes of it; none where the title was refused memory, or the session.
+// The answer; `None` if the title or the session could not be allocated.
 fn answer_to<M: Allocator + Copy>(
     editor: &mut Editor<M>,
     memory: M,
@@ -84,14 +84,13 @@ fn done<M: Allocator + Copy>(
     answer_to(editor, memory, work).unwrap_or(Err(EditorFault::Memory))
 }
 
-// Takes what is there before the work.
+// Applies the operations that come before the work.
 fn is_prepared<M: Allocator + Copy>(editor: &mut Editor<M>, memory: M, work: Work) -> bool {
     takes_markers(editor, memory)
         && (work != Work::Edit || done(editor, memory, Work::Take).is_ok())
 }
 
-// How many growths were asked for before the work, by how much the work raised the count of joins,
-// and what came of it.
+// The number of allocations before the work, the number of joins that it added, and its answer.
 #[derive(Clone, Copy)]
 struct Cost {
     before: u64,
@@ -118,8 +117,8 @@ fn cost_to<M: Allocator + Copy>(
     })
 }
 
-// The same of an editor of A that begins with the empty log; none where it is refused memory before
-// the work.
+// The cost of the work for an editor of A that starts with the empty log; `None` if an allocation
+// before the work fails.
 fn cost_of<M: Allocator + Copy>(memory: M, tally: &Refusing<Global>, work: Work) -> Option<Cost> {
     match Editor::from_log(memory, A, Log::new(memory)) {
         Ok(mut editor) => cost_to(&mut editor, memory, tally, work),
@@ -127,14 +126,14 @@ fn cost_of<M: Allocator + Copy>(memory: M, tally: &Refusing<Global>, work: Work)
     }
 }
 
-// The same where one growth is refused, and whether one was.
+// The result if one allocation fails, and whether it failed.
 fn refused_at(alloc: Global, at: u64, work: Work) -> (Option<Cost>, bool) {
     let memory = Refusing::new(alloc, at);
     let cost = cost_of(&memory, &memory, work);
     (cost, memory.has_refused())
 }
 
-// The growths before it, where it is done and joins so many cells.
+// The number of allocations before the work, if the work succeeds with this number of joins.
 fn allocs_before(alloc: Global, work: Work, joins: u64) -> Option<u64> {
     match refused_at(alloc, u64::MAX, work) {
         (Some(cost), false) if cost.done.is_ok() && cost.raised == joins => Some(cost.before),
@@ -142,7 +141,7 @@ fn allocs_before(alloc: Global, work: Work, joins: u64) -> Option<u64> {
     }
 }
 
-// Whether an allocation fails in it, which it answers with `Memory`.
+// Whether an allocation fails in the work, which then returns `Memory`.
 fn is_refused(alloc: Global, at: u64, work: Work) -> bool {
     match refused_at(alloc, at, work) {
         (Some(cost), true) => cost.done == Err(EditorFault::Memory),
@@ -150,7 +149,7 @@ fn is_refused(alloc: Global, at: u64, work: Work) -> bool {
     }
 }
 
-// Whether it is done where no growth up to this one is refused.
+// Whether the work succeeds if none of its allocations up to this one fails.
 fn is_over(alloc: Global, at: u64, work: Work) -> bool {
     match refused_at(alloc, at, work) {
         (Some(cost), false) => cost.done.is_ok(),
@@ -158,8 +157,8 @@ fn is_over(alloc: Global, at: u64, work: Work) -> bool {
     }
 }
 
-// How many growths it takes, each of which is refused in turn; none where they are over 64, or it
-// does not join one cell.
+// The number of allocations of the work, each of which fails in turn; `None` if there are more than
+// 64, or if it does not join exactly one cell.
 fn allocs_of(alloc: Global, work: Work) -> Option<u64> {
     let before = allocs_before(alloc, work, 1)?;
     for more in 0..GROWTHS.saturating_add(1) {
@@ -184,8 +183,7 @@ fn gives_a_title_at_the_cost_of_one_cell(rt: HostRuntime) -> Result<(), Fail> {
     Ok(())
 }
 
-// Whether a session that is made from nothing joins nothing, and fails at the allocation after as
-// many as a title takes.
+// Whether rebuilding a session joins nothing, and needs more allocations than a title.
 fn scratch_takes_more(alloc: Global) -> bool {
     match allocs_before(alloc, Work::Scratch, 0) {
         Some(before) => is_refused(alloc, before.saturating_add(GROWTHS), Work::Scratch),

@@ -24,9 +24,9 @@ fn text(name: Name) -> &'static str {
     }
 }
 
-/// What an operation or a change does. A Remove of an operation lists the item's first tag, and
-/// `RemoveBoth` a second one too. A marker is added at 480, and the last one, which no operation
-/// is, at the last frame.
+/// What an operation or a change does. A Remove lists the item's first tag, and `RemoveBoth` also a
+/// second one. A marker is added at 480; the last act, which no operation has, adds one at the last
+/// frame.
 #[derive(Clone, Copy)]
 pub(crate) enum Act {
     AddTrack(Option<Stamp>),
@@ -47,7 +47,7 @@ pub(crate) enum Act {
     SetMarkerLength(Stamp),
 }
 
-// The change of an act that gives no title.
+// The change of an act without a title.
 fn plain_change<M: Allocator>(act: Act) -> Result<Change<M>, EditorFault> {
     Ok(match act {
         Act::MoveTrack(track, after) => Change::MoveTrack { track, after },
@@ -89,7 +89,7 @@ fn titled<M: Allocator>(memory: M, text: &str) -> Result<Title<M>, EditorFault> 
     }
 }
 
-// The change of an act that gives a title; that of a track is `Voice`.
+// The change of an act with a title. A track is called `Voice`.
 fn titled_change<M: Allocator>(memory: M, act: Act) -> Result<Change<M>, EditorFault> {
     Ok(match act {
         Act::AddTrack(after) => Change::AddTrack {
@@ -121,7 +121,7 @@ pub(crate) fn change_of<M: Allocator>(memory: M, act: Act) -> Result<Change<M>, 
     }
 }
 
-// The body of an act that needs no memory.
+// The body of an act that needs no allocation.
 fn plain_body<M: Allocator>(act: Act) -> Option<Body<M>> {
     match act {
         Act::MoveTrack(track, after) => Some(Body::MoveTrack { track, after }),
@@ -162,7 +162,7 @@ fn plain_op<M: Allocator>(stamp: Stamp, act: Act) -> Result<Op<M>, OpFault> {
     }
 }
 
-/// The operation of this stamp that does this.
+/// The operation with this stamp that does this act.
 pub(crate) fn op_of<M: Allocator>(memory: M, stamp: Stamp, act: Act) -> Result<Op<M>, OpFault> {
     match act {
         Act::AddTrack(after) => add_track(memory, stamp, after),

@@ -1,5 +1,5 @@
-//! Which operations became ready by one that was taken, in small and in a long chain, and how many
-//! tags a removal lists.
+//! Which operations become ready by an applied one, in a small case and in a long chain, and how
+//! many tags a Remove lists.
 
 use crate::tests::works::{Work, is_done};
 use mt_op::{Body, Op};
@@ -9,14 +9,14 @@ use mt_stamp::{List, Stamp};
 use std::alloc::{Allocator, Global};
 use test_kit::{A, B, Refusing, add_track, marker, retitle};
 
-// That operations of these stamps became ready.
+// The outcome in which the operations with these stamps became ready.
 fn applied<M: Allocator>(memory: M, stamps: &[Stamp]) -> Option<Taken<M>> {
     let mut rising = Vec::new(memory);
     rising.extend_from_slice(stamps).ok()?;
     Some(Taken::Applied(List::new(rising)))
 }
 
-// Whether an editor who takes a title before its marker is told of both, in the order of their
+// Whether an editor that applies a title before its marker reports both, in the order of their
 // stamps.
 fn tells_of_both<M: Allocator + Copy>(editor: &mut Editor<M>, memory: M) -> Option<bool> {
     let (item, early) = (Stamp::new(1, A, 1).ok()?, Stamp::new(2, B, 1).ok()?);
@@ -27,7 +27,7 @@ fn tells_of_both<M: Allocator + Copy>(editor: &mut Editor<M>, memory: M) -> Opti
     Some(is_held && are_ready && shows(editor, Some("Late"), 0))
 }
 
-// Whether an editor's session has no marker, or one of this title, and holds back so many
+// Whether an editor's session has no marker, or one with this title, and this number of held
 // operations.
 fn shows<M: Allocator + Copy>(editor: &Editor<M>, title: Option<&str>, held: u64) -> bool {
     match editor.session() {
@@ -39,7 +39,7 @@ fn shows<M: Allocator + Copy>(editor: &Editor<M>, title: Option<&str>, held: u64
     }
 }
 
-// The track of this number, whose place is behind that of the one before.
+// The track with this number, which is placed after the track before it.
 fn track<M: Allocator>(memory: M, number: u64) -> Option<Op<M>> {
     let before = number.saturating_sub(1);
     let after = match number {
@@ -49,7 +49,7 @@ fn track<M: Allocator>(memory: M, number: u64) -> Option<Op<M>> {
     add_track(memory, Stamp::new(number, A, number).ok()?, after).ok()
 }
 
-// How many became ready by the track of this number, where it is not held.
+// The number of operations that become ready by the track with this number, if it is not held.
 fn ready_by<M: Allocator + Copy>(editor: &mut Editor<M>, memory: M, number: u64) -> Option<usize> {
     match editor.take(track(memory, number)?).ok()? {
         Taken::Applied(stamps) => Some(stamps.items().len()),
@@ -57,8 +57,8 @@ fn ready_by<M: Allocator + Copy>(editor: &mut Editor<M>, memory: M, number: u64)
     }
 }
 
-// How many tracks were held, taken from the last to the first, and how many then became ready at
-// once.
+// The number of tracks that are held when they are applied from the last to the first, and how many
+// then become ready at once.
 fn taken_backwards<M: Allocator + Copy>(
     editor: &mut Editor<M>,
     memory: M,
@@ -73,7 +73,7 @@ fn taken_backwards<M: Allocator + Copy>(
     None
 }
 
-// A title that comes before its marker, and a chain of 10,000 tracks.
+// A title that arrives before its marker, and a chain of 10,000 tracks.
 #[derive(Clone, Copy)]
 enum Early {
     Title,
@@ -107,7 +107,7 @@ fn holds_a_long_chain_until_its_first(rt: HostRuntime) {
     assert!(rt; is_done(rt.alloc(), &Early::Chain));
 }
 
-// Gives the marker another tag, or makes it where the number is 1.
+// Adds a tag to the marker, or creates the marker if the number is 1.
 fn add_tag<M: Allocator + Copy>(log: &mut Log<M>, memory: M, number: u64) -> Option<bool> {
     let stamp = Stamp::new(number, A, number).ok()?;
     let op = match number {
@@ -122,7 +122,7 @@ fn restored<M: Allocator>() -> Option<Body<M>> {
     Some(Body::Restore { item })
 }
 
-// How many tags an operation lists.
+// The number of tags that an operation lists.
 fn tags_of<M: Allocator>(op: &Op<M>) -> usize {
     match op.body() {
         Body::Remove { tags, .. } => tags.items().len(),
@@ -130,7 +130,7 @@ fn tags_of<M: Allocator>(op: &Op<M>) -> usize {
     }
 }
 
-// A marker that is there by as many tags, and how many its removal lists, or why there is none.
+// A marker with a number of tags, and the number that its Remove lists, or the error.
 #[derive(Clone, Copy)]
 struct Tagged {
     tags: u64,
@@ -162,7 +162,7 @@ impl Work for Tagged {
     }
 }
 
-// Whether a marker that is there by as many tags is removed so.
+// Whether removing a marker with this number of tags gives this result.
 fn is_removed(alloc: Global, tags: u64, removed: Result<usize, EditorFault>) -> bool {
     is_done(alloc, &Tagged { tags, removed })
 }

@@ -1,4 +1,4 @@
-//! What editors swap, with each growth refused in turn.
+//! Exchanges between editors; each allocation fails in turn.
 use super::devices::whole;
 use super::messages::{log_before, ops_for};
 use super::{CALLER, Cut, End, held, is_left, is_wanted, log_of_end};
@@ -10,8 +10,8 @@ use mt_sync::{MessageFault, Side, SyncFault, TalkFault, exchange, take_ops};
 use std::alloc::{Allocator, Global};
 use test_kit::{A, B, Refusing, log_of};
 
-// Whether an editor that takes operations out of bytes has so many then. Where it is refused
-// memory, it has those that it had or has failed.
+// Whether an editor that applies the operations of a message ends with this number of them. If an
+// allocation fails, it keeps the operations that it had, or has failed.
 fn takes<M: Allocator + Copy>(
     memory: M,
     alloc: Global,
@@ -28,7 +28,7 @@ fn takes<M: Allocator + Copy>(
     }
 }
 
-// Whether two editors of one operation each have both after an exchange.
+// Whether two editors with one operation each both have two after an exchange.
 fn swaps<M: Allocator + Copy>(
     memory: M,
     caller: &mut Editor<M>,
@@ -41,7 +41,7 @@ fn swaps<M: Allocator + Copy>(
     }
 }
 
-// Two exchanges, of which the second one changes nothing.
+// Two exchanges, of which the second changes nothing.
 fn swaps_twice<M: Allocator + Copy>(
     memory: M,
     caller: &mut Editor<M>,
@@ -50,7 +50,7 @@ fn swaps_twice<M: Allocator + Copy>(
     Ok(swaps(memory, caller, answerer)? && swaps(memory, caller, answerer)?)
 }
 
-// The same with a new editor.
+// Two exchanges with a new editor.
 fn swaps_with<M: Allocator + Copy>(
     memory: M,
     caller: &mut Editor<M>,
@@ -62,7 +62,7 @@ fn swaps_with<M: Allocator + Copy>(
     }
 }
 
-// Whether an editor of 32 operations takes one that follows.
+// Whether an editor with 32 operations applies one that follows them.
 fn takes_a_few<M: Allocator + Copy>(
     memory: M,
     alloc: Global,
@@ -77,7 +77,7 @@ fn takes_a_few<M: Allocator + Copy>(
 }
 
 // The stamps of four operations of one replica, of which another editor lacks the third, and of one
-// of another replica.
+// operation of another replica.
 fn stamps() -> Option<[Stamp; 5]> {
     Some([
         Stamp::new(1, A, 1).ok()?,
@@ -88,7 +88,7 @@ fn stamps() -> Option<[Stamp; 5]> {
     ])
 }
 
-// Two markers of 42 bytes in one message, and Bye
+// Two markers of 42 bytes in one message, and Bye.
 fn carries<M: Allocator + Copy>(
     memory: M,
     alloc: Global,

@@ -1,4 +1,4 @@
-//! Both ends of a conversation, a byte at a time, whose reads and writes end or fail in turn.
+//! Both ends of a conversation, byte by byte. Their reads and writes end or fail in turn.
 use super::{has_the_marker, is_left, log_of_end, said_by, told_to};
 use crate::tests::works::{Work, is_done};
 use mt_opcodec::{Latch, Log};
@@ -8,18 +8,18 @@ use std::alloc::{Allocator, Global};
 use std::io::ErrorKind;
 use test_kit::{ChokedWriter, FailingWriter, Refusing, SlowReader};
 
-// What an end came to.
+// The outcome for an end.
 #[derive(Clone, Copy, PartialEq, Eq)]
 struct Outcome {
-    // the refusal's number, or 255
+    // the error number, or 255
     number: u8,
-    // how many bytes it has written, if they are those that it has to write
+    // the number of written bytes, if they are the expected ones
     written: Option<usize>,
-    // whether it has the marker and nothing else
+    // whether it has only the marker
     has_it: bool,
 }
 
-// How many bytes were written, if they are those of this end.
+// The number of written bytes, if they are those of this end.
 fn front_of(side: Side, written: &[u8]) -> Option<usize> {
     if said_by(side).starts_with(written) {
         Some(written.len())
@@ -28,7 +28,7 @@ fn front_of(side: Side, written: &[u8]) -> Option<usize> {
     }
 }
 
-// An end whose read and write of these numbers fail, and what it is to come to.
+// An end whose read and write with these numbers fail, and its expected outcome.
 #[derive(Clone, Copy)]
 pub(super) struct Conversation<'s> {
     side: Side,
@@ -38,8 +38,7 @@ pub(super) struct Conversation<'s> {
     wanted: Outcome,
 }
 
-// The number of its refusal, or 255, and how many bytes it has written, if they are those that it
-// has to write.
+// The error number, or 255, and the number of written bytes, if they are the expected ones.
 fn conversed<M: Allocator + Copy>(
     memory: M,
     alloc: Global,
@@ -81,8 +80,8 @@ impl Work for Conversation<'_> {
     }
 }
 
-// What is to come of so many bytes that were read: the answer follows the other's Have, what that
-// one lacks its Bye, and the marker is taken with its message.
+// The outcome after this number of bytes was read. The reply follows the peer's Have, the missing
+// operations follow its Bye, and the marker is applied with its message.
 fn after(side: Side, number: u8, count: usize) -> Outcome {
     let (written, has_it) = match side {
         Side::Caller => (if count < 14 { 37 } else { 93 }, true),
@@ -97,7 +96,7 @@ fn after(side: Side, number: u8, count: usize) -> Outcome {
 
 const NEVER: usize = usize::MAX;
 
-/// One in which none fails.
+/// A conversation in which nothing fails.
 pub(super) fn whole(side: Side) -> Conversation<'static> {
     let stream = told_to(side);
     Conversation {
@@ -119,7 +118,7 @@ fn converses_over_a_reader_and_a_writer(rt: HostRuntime) {
     }
 }
 
-// Whether an end is refused where its input ends behind so many bytes, and where the read of that
+// Whether an end fails if its input ends after this number of bytes, and if the read with that
 // number fails.
 fn is_cut(alloc: Global, side: Side, end: usize) -> bool {
     let ends = Conversation {
@@ -145,7 +144,7 @@ fn each_read_ends_or_fails_in_turn(rt: HostRuntime) {
     }
 }
 
-// Whether an end is refused where the write of this number fails.
+// Whether an end fails if the write with this number fails.
 fn is_stopped(alloc: Global, side: Side, at: usize) -> bool {
     let wanted = Outcome {
         number: 37,
@@ -170,7 +169,7 @@ fn each_write_fails_in_turn(rt: HostRuntime) {
     }
 }
 
-// An end whose writer takes no byte.
+// An end whose writer takes no bytes.
 #[derive(Clone, Copy)]
 struct Choked {
     side: Side,

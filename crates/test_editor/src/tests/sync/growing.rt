@@ -1,17 +1,17 @@
-//! A log that grows by messages, of which each stands in front of those before it.
+//! A log that grows by messages, each of which comes before the earlier ones in the log.
 use super::messages::ops_for;
 use mt_stamp::Stamp;
 use mt_sync::{LogBuilder, SyncFault, TalkFault, take_ops};
 use std::alloc::{Allocator, Global};
 use test_kit::{A, B, Refusing, log_of};
 
-// Messages enough for logs of several lengths to stand behind one another.
+// Enough messages that several logs of different lengths are appended to one another.
 const MESSAGES: u64 = 6;
 
-// More growths than these ask for.
+// More allocations than the messages need.
 const GROWTHS: u64 = 400;
 
-// Takes a marker out of each message, each with a number before that of the last.
+// Applies a marker from each message; each has a smaller number than the one before.
 fn grow<M: Allocator + Copy>(
     memory: M,
     alloc: Global,
@@ -28,7 +28,8 @@ fn grow<M: Allocator + Copy>(
     Some(Ok(()))
 }
 
-// How many operations a log of one marker comes to; none where an allocation failed outside of it.
+// The number of operations in a log of one marker after all messages; `None` if an allocation of
+// the test fails.
 fn grown<M: Allocator + Copy>(memory: M, alloc: Global) -> Option<Result<usize, TalkFault>> {
     let log = log_of(&memory, &[Stamp::new(1, A, 1).ok()?]).ok()?;
     let Ok(mut growing) = LogBuilder::new(memory, log) else {
@@ -44,7 +45,7 @@ fn grown<M: Allocator + Copy>(memory: M, alloc: Global) -> Option<Result<usize, 
     }
 }
 
-// How many growths are refused in turn, each as 0, before a log has grown by all messages.
+// How many allocations can fail, each reported as 0, before a log has grown by all messages.
 fn refusals(alloc: Global) -> Option<u64> {
     for at in 0..GROWTHS {
         let memory = Refusing::new(alloc, at);

@@ -1,6 +1,6 @@
-//! Operations of a message that join an editor's log: one by one where they are few and follow, as
-//! a whole where not. Its joins tell which way it was: they are counted from 0 by an editor that is
-//! made anew.
+//! How the operations of a message join an editor's log: one by one if they are few and follow the
+//! log, and otherwise all at once. The number of joins shows which: a rebuilt editor starts to
+//! count at 0.
 use super::held;
 use crate::tests::works::{Work, is_done};
 use mt_opcodec::Log;
@@ -11,7 +11,7 @@ use std::alloc::{Allocator, Global};
 use std::test::Fail;
 use test_kit::{A, B, Refusing, log_of};
 
-// What no refusal has for its number.
+// A number that no error has.
 const TAKEN: u8 = 255;
 
 fn have_of<M: Allocator + Copy>(
@@ -31,7 +31,7 @@ fn lack_of<M: Allocator + Copy>(
     Some(lack_bytes(memory, &log, have))
 }
 
-/// What one of markers of the first stamps sends to one of markers of the others: the message, and
+/// What an editor of markers with the first stamps sends to one with the others: the message, and
 /// Bye.
 pub(super) fn ops_for<M: Allocator + Copy>(
     memory: M,
@@ -44,11 +44,11 @@ pub(super) fn ops_for<M: Allocator + Copy>(
     }
 }
 
-// What came of a message: the refusal's number, how many operations the editor has, and how many
-// cells it has joined since it was made.
+// The outcome of a message: the error number, the number of operations of the editor, and the
+// number of cells that it has joined since it was built.
 type Joined = (u8, Option<usize>, u64);
 
-// What an editor comes to that is told a message.
+// The outcome of a message for an editor.
 fn join<M: Allocator + Copy>(
     memory: M,
     alloc: Global,
@@ -62,7 +62,7 @@ fn join<M: Allocator + Copy>(
     (number, held(editor), editor.joins())
 }
 
-// What an editor answers that takes a copy of an operation of a log.
+// The result when an editor applies a copy of an operation of a log.
 fn take_at<M: Allocator + Clone>(editor: &mut Editor<M>, ops: &Log<M>, place: usize) -> Option<u8> {
     let copy = ops.op_at(place)?.try_clone().ok()?;
     match editor.take(copy) {
@@ -71,7 +71,7 @@ fn take_at<M: Allocator + Clone>(editor: &mut Editor<M>, ops: &Log<M>, place: us
     }
 }
 
-// The same of all, one by one, up to the first that is refused.
+// The result when it applies all of them, one by one, up to the first error.
 fn take_each<M: Allocator + Clone>(editor: &mut Editor<M>, ops: &Log<M>) -> Option<u8> {
     for place in 0..ops.len() {
         let number = take_at(editor, ops, place)?;
@@ -91,14 +91,14 @@ fn stamps_before<M: Allocator>(memory: M) -> Option<Vec<Stamp, M>> {
     Some(stamps)
 }
 
-/// The log of them.
+/// The log of these operations.
 pub(super) fn log_before<M: Allocator + Copy>(memory: M) -> Option<Log<M>> {
     let stamps = stamps_before(memory)?;
     log_of(&memory, &stamps).ok()
 }
 
-// Whether an editor that takes markers of these stamps one by one is refused as another was, and is
-// then the same.
+// Whether an editor that applies markers with these stamps one by one gets the same error as
+// another one, and is then equal to it.
 fn is_alike<M: Allocator + Copy>(
     memory: M,
     beside: &mut Editor<M>,
@@ -109,7 +109,7 @@ fn is_alike<M: Allocator + Copy>(
     Some(take_each(beside, &ops)? == number && &*beside == editor)
 }
 
-// The same of a new editor of the 32.
+// Whether this holds for a new editor with the 32 operations.
 fn is_as_one_by_one<M: Allocator + Copy>(
     memory: M,
     stamps: &[Stamp],
@@ -121,7 +121,7 @@ fn is_as_one_by_one<M: Allocator + Copy>(
     }
 }
 
-// A message with markers of these stamps, to an editor of the 32, and what comes of it.
+// A message with markers of these stamps, to an editor with the 32 operations, and its outcome.
 #[derive(Clone, Copy)]
 struct Joining<'s> {
     stamps: &'s [Stamp],
@@ -146,7 +146,7 @@ impl Work for Joining<'_> {
     }
 }
 
-// Whether that comes of it.
+// Whether the message has this outcome.
 fn comes_to(alloc: Global, stamps: &[Stamp], (number, held, joins): (u8, usize, u64)) -> bool {
     let joined = (number, Some(held), joins);
     is_done(alloc, &Joining { stamps, joined })
@@ -164,13 +164,13 @@ fn takes_a_few_that_follow_one_by_one(rt: HostRuntime) -> Result<(), Fail> {
 
 #[test]
 fn joins_others_as_a_whole(rt: HostRuntime) -> Result<(), Fail> {
-    // one that stands before all others of its replica
+    // one that comes before all others of its replica
     let first = [Stamp::new(40, A, 1)?];
     assert!(rt; comes_to(rt.alloc(), &first, (TAKEN, 33, 0)));
-    // one that is there
+    // one that exists already
     let last = [Stamp::new(33, A, 33)?];
     assert!(rt; comes_to(rt.alloc(), &last, (TAKEN, 32, 0)));
-    // more than a sixteenth of those before
+    // more than a sixteenth of the operations of the log
     let three = [
         Stamp::new(34, B, 1)?,
         Stamp::new(35, B, 2)?,

@@ -1,5 +1,5 @@
-//! A conversation over a socket of this machine, in one process: the caller has written all that it
-//! sends before the answerer reads.
+//! A conversation over a local socket, in one process: the caller has written everything before the
+//! answerer reads.
 
 use super::{ANSWERER, CALLER, has_the_marker};
 use mt_opcodec::{Latch, Log};
@@ -11,8 +11,8 @@ use std::net::{Net, OpenListener, OpenStream, TcpListener, TcpStream};
 use std::test::Fail;
 use test_kit::B;
 
-// Answers over a stream, which is read and written by two handles of it, and tells whether the
-// editor has the caller's marker then.
+// Answers over a stream, which is read and written by two handles, and returns whether the editor
+// then has the caller's marker.
 fn answers_by<S: Read + Write + OpenStream + Drop>(
     alloc: Global,
     editor: &mut Editor,
@@ -25,7 +25,7 @@ fn answers_by<S: Read + Write + OpenStream + Drop>(
     has_the_marker(alloc, editor)
 }
 
-// The same of an editor of no operation.
+// Answers with an editor without operations.
 fn answers_over<S: Read + Write + OpenStream + Drop>(alloc: Global, stream: S) -> Option<bool> {
     match Editor::from_log(alloc, B, Log::new(alloc)) {
         Ok(mut editor) => answers_by(alloc, &mut editor, stream),

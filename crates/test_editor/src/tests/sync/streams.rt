@@ -1,4 +1,4 @@
-//! Streams that a talk refuses.
+//! Streams that a conversation rejects.
 use super::{CALLER, held};
 use crate::tests::works::{Work, is_done};
 use mt_replica::Editor;
@@ -7,7 +7,7 @@ use std::alloc::{AllocError, Allocator, Global};
 use std::test::Fail;
 use test_kit::Refusing;
 
-// What feeding a piece answers: the refusal's number, or how many bytes.
+// The result of feeding a piece: the error number, or the number of bytes.
 fn fed<M: Allocator + Clone>(
     talk: &mut Talk<M>,
     editor: &mut Editor<M>,
@@ -19,7 +19,7 @@ fn fed<M: Allocator + Clone>(
     }
 }
 
-// A piece at which a new answerer stops with this refusal, and for good.
+// A piece at which a new answerer stops for good, with this error.
 #[derive(Clone, Copy)]
 struct Stop<'p> {
     piece: &'p [u8],
@@ -68,14 +68,14 @@ fn stops_at_the_first_fault(rt: HostRuntime) {
     }
 }
 
-// A frame of so many bytes 0.
+// A frame of `length` zero bytes.
 fn frame_of(alloc: Global, length: u32) -> Result<Vec<u8>, AllocError> {
     let mut frame = Vec::from_slice(alloc, &length.to_be_bytes())?;
     frame.resize(length as usize + 4, 0)?;
     Ok(frame)
 }
 
-// the longest frame is read, and a longer one is refused by its length
+// the longest frame is read, and a longer one fails by its length
 #[test]
 fn reads_the_longest_frame(rt: HostRuntime) -> Result<(), Fail> {
     for (length, number) in [(8_388_608, 38), (8_388_609, 40)] {

@@ -1,4 +1,4 @@
-//! Latches round readers and writers that fail.
+//! Latches around readers and writers that fail.
 use mt_opcodec::{Latch, LatchFault};
 use std::alloc::Global;
 use std::io::ErrorKind;
@@ -23,7 +23,7 @@ fn reads_in_pieces(alloc: Global) -> Result<bool, LatchFault> {
     gives_in_pieces(&mut input, alloc)
 }
 
-// Puts a text in pieces.
+// Writes a text in pieces.
 fn put_in_pieces(output: &mut Latch<Vec<u8>>) -> Result<(), LatchFault> {
     for piece in [b"a session".as_slice(), b"", b" of nine clips"] {
         output.put(piece)?;
@@ -31,7 +31,7 @@ fn put_in_pieces(output: &mut Latch<Vec<u8>>) -> Result<(), LatchFault> {
     Ok(())
 }
 
-// Whether a text that is written in pieces is it, and the latch has not failed.
+// Whether a text that is written in pieces arrives whole, and the latch has not failed.
 fn writes_in_pieces(alloc: Global) -> bool {
     let mut output = Latch::new(Vec::new(alloc));
     let is_put = put_in_pieces(&mut output).is_ok();
@@ -57,9 +57,8 @@ fn numbers_its_refusals(rt: HostRuntime) {
     }
 }
 
-// Whether a failed read is what a reader is answered as that fails after so many, at first and at
-// two further reads, and the latch has failed from the first one on, which is the last that the
-// reader was asked for.
+// Whether a reader that fails after `good` reads gives the expected error, also at two more reads;
+// and whether the latch has failed since the first error and did not call the reader again.
 fn fails_after_reads(alloc: Global, good: usize, kind: ErrorKind) -> bool {
     let mut input = Latch::new(FailingReader::new(good, kind));
     let first = input.get_all(alloc).err();
@@ -83,7 +82,7 @@ fn fails_at_the_first_failed_read(rt: HostRuntime) {
     }
 }
 
-// Whether the reader gives a byte at each of a thousand reads.
+// Whether the reader returns a byte at each of a thousand reads.
 fn gives_a_thousand(input: &mut Latch<OneByteForEver>) -> bool {
     for _ in 0..1000 {
         if input.get(&mut [0; 4]) != Ok(1) {
@@ -93,8 +92,8 @@ fn gives_a_thousand(input: &mut Latch<OneByteForEver>) -> bool {
     true
 }
 
-// What the rest of a text without end is answered as, whether the latch has then failed, and how
-// often the reader was asked. None where one of the first thousand reads gives no byte.
+// The error for the rest of an endless text, whether the latch has then failed, and the number of
+// reads. `None` if one of the first thousand reads returns no byte.
 fn read_for_ever(alloc: Global) -> Option<(Option<LatchFault>, bool, usize)> {
     let mut input = Latch::new(OneByteForEver::new());
     if !gives_a_thousand(&mut input) {
@@ -110,9 +109,9 @@ fn fails_at_the_read_past_the_allowed_ones(rt: HostRuntime) {
     assert!(rt; read_for_ever(rt.alloc()) == Some((Some(LatchFault::Read), true, 16_777_216)));
 }
 
-// Whether a failed write is what a writer is answered as that fails after so many, at first and at
-// two further writes, the latch has failed from the first one on, which is the last that the writer
-// was asked for, and the writer has the text's first bytes.
+// Whether a writer that fails after `good` writes gives the expected error, also at two more
+// writes; whether the latch has failed since the first error and did not call the writer again; and
+// whether the writer has the first bytes of the text.
 fn fails_after_writes(alloc: Global, good: usize, kind: ErrorKind) -> bool {
     let mut output = Latch::new(FailingWriter::new(alloc, good, kind));
     let first = output.put(TEXT);
@@ -138,8 +137,8 @@ fn fails_at_the_first_failed_write(rt: HostRuntime) {
     }
 }
 
-// What a writer that takes nothing is answered as, at nothing and at the text, twice, whether the
-// latch has failed after each of the first two, and how often the writer was asked.
+// The results of a writer that takes nothing, for an empty write and then for the text, twice;
+// whether the latch has failed after each of the first two; and the number of calls of the writer.
 fn choked() -> ([Result<(), LatchFault>; 3], [bool; 2], usize) {
     let mut output = Latch::new(ChokedWriter::new());
     let nothing = output.put(b"");
@@ -160,8 +159,8 @@ fn fails_where_no_byte_is_taken(rt: HostRuntime) {
     assert!(rt; choked() == ([Ok(()), fault, fault], [false, true], 1));
 }
 
-// How many bytes a latch gives, or its refusal, where the latch has then not failed, and less than
-// the text is left.
+// The number of bytes that a latch returns; or the error, if the latch has then not failed and a
+// part of the text is left.
 fn read_whole(
     memory: &Refusing<Global>,
     alloc: Global,
@@ -179,7 +178,7 @@ fn read_whole(
     }
 }
 
-// How often memory is asked for, where all bytes are read and each growth is refused as that.
+// The number of allocations, if all bytes are read and each failing allocation is reported as such.
 fn refusals(alloc: Global, text: &[u8]) -> Option<u64> {
     let granted = Refusing::new(alloc, u64::MAX);
     if read_whole(&granted, alloc, text) != Some(Ok(text.len())) {
@@ -195,8 +194,8 @@ fn refusals(alloc: Global, text: &[u8]) -> Option<u64> {
 }
 
 // row: refused_growths
-/// A refused growth is no failure of the reader: the latch stays sound, and what was not read yet
-/// is still there.
+/// A failed allocation is not a failure of the reader: the latch still works, and the bytes that
+/// were not read yet are still there.
 #[test]
 fn stays_sound_without_memory(rt: HostRuntime) -> Result<(), Fail> {
     let text = vec![in rt.alloc(); b'x'; 300_000]?;

@@ -6,7 +6,7 @@ use std::alloc::Global;
 use std::test::Fail;
 use test_kit::{A, marker};
 
-/// The log of no operation.
+/// The log without operations.
 const EMPTY: [u8; 45] = [
     b'R', b'M', b'T', b'S', 1, 0, 0, 0, 0, 0, 0, 0, 0, 0x11, 0x16, 0xdd, 0xab, 0xe2, 0x3a, 0x61,
     0xd2, 0xbd, 0xea, 0xf3, 0x06, 0x06, 0x0d, 0xd6, 0x32, 0x3b, 0xc4, 0xbc, 0xc6, 0xb9, 0xeb, 0xc9,
@@ -22,8 +22,8 @@ const ONE_MARKER: [u8; 87] = [
     0x0c,
 ];
 
-// How many operations a log has that is read from a text and written as it again, where the first
-// of them is that of the dot `(A, 1)` and its copy is equal.
+// The number of operations of a log that is read from a text and written back unchanged, if the
+// first one has the dot `(A, 1)` and its copy is equal.
 fn count_of(alloc: Global, text: &[u8]) -> Result<Option<usize>, LogFault> {
     let log = Log::read(alloc, text)?;
     let first = Dot { replica: A, seq: 1 };
@@ -52,7 +52,7 @@ fn writes_and_reads_logs(rt: HostRuntime) {
     assert!(rt; count_of(rt.alloc(), &ONE_MARKER) == Ok(Some(1)));
 }
 
-// The number under which bytes are refused as a log; 255 where they are one.
+// The error number for bytes that are no log, or 255 for a log.
 fn log_refusal(alloc: Global, bytes: &[u8]) -> u8 {
     match Log::read(alloc, bytes) {
         Ok(_) => 255,
@@ -60,7 +60,7 @@ fn log_refusal(alloc: Global, bytes: &[u8]) -> u8 {
     }
 }
 
-// That of as many bytes of the log of one marker.
+// The error number for the first `len` bytes of the log of one marker.
 fn refusal_of_a_cut(len: usize) -> u8 {
     match len {
         0..=3 => 11,
@@ -79,7 +79,7 @@ fn refuses_each_cut_log(rt: HostRuntime) {
     }
 }
 
-// The number under which bytes are refused as an operation; 255 where they begin with one.
+// The error number for bytes that do not begin with an operation, or 255.
 fn op_refusal(alloc: Global, bytes: &[u8]) -> u8 {
     match read_op(alloc, bytes) {
         Ok(_) => 255,
@@ -103,7 +103,7 @@ fn is_written_as(alloc: Global, op: &Op, bytes: &[u8]) -> bool {
     write_op(op, &mut out).is_ok() && bytes.get(..42) == Some(out.as_slice())
 }
 
-// Whether it is read from them, with bytes behind.
+// Whether an operation is read from these bytes, with more bytes after it.
 fn is_read_from(alloc: Global, op: &Op, bytes: &[u8]) -> bool {
     match read_op(alloc, bytes) {
         Ok((read, len)) => read == *op && len == 42,
@@ -111,7 +111,7 @@ fn is_read_from(alloc: Global, op: &Op, bytes: &[u8]) -> bool {
     }
 }
 
-// Whether both are so of the marker `News` at 480 of this stamp.
+// Whether both hold for the marker `News` at 480 with this stamp.
 fn is_marker(alloc: Global, stamp: Stamp, bytes: &[u8]) -> Result<bool, OpFault> {
     let news = marker(alloc, stamp, "News")?;
     Ok(is_written_as(alloc, &news, bytes) && is_read_from(alloc, &news, bytes))
@@ -125,13 +125,13 @@ fn writes_and_reads_the_marker(rt: HostRuntime) -> Result<(), Fail> {
     Ok(())
 }
 
-// How long the operation is with which bytes begin, or why there is none.
+// The length of the operation at the beginning of these bytes, or the error.
 fn op_len(alloc: Global, bytes: &[u8]) -> Result<usize, ReadFault> {
     let (_, len) = read_op(alloc, bytes)?;
     Ok(len)
 }
 
-// The log of one marker with another byte at a place.
+// The log of one marker with one byte replaced.
 fn with_byte(place: usize, byte: u8) -> [u8; 87] {
     let mut bytes = ONE_MARKER;
     if let Some(there) = bytes.get_mut(place) {
@@ -152,34 +152,63 @@ fn reads_an_operation_and_refuses_others(rt: HostRuntime) {
     assert!(rt; op_len(rt.alloc(), &clock[13..]) == Err(ReadFault::BadField));
 }
 
-/// The log of a track, a clip on it and a fade of that, in the version that knows no fade.
+/// The log of a track, a clip on it and a fade of the clip, in the version that has no fades.
 const A_FADE_IN_VERSION_1: &[u8] =
-    b"RMTS\x01\0\0\0\0\0\0\0\x03\0\0\0\0\0\0\0\x01\0\0\0\0\0\0\0\0\0\0\0\0\0\0\0\n\0\0\0\0\0\0\0\x01\x01\0\x01V\0\0\0\0\0\0\0\x02\0\0\0\0\0\0\0\0\0\0\0\0\0\0\0\n\0\0\0\0\0\0\0\x02\x03\0\0\0\0\0\0\0\0\0\0\0\0\0\0\0\0\0\0\0\0\0\0\0\0\0\0\0\0\0\0\0\0\0\0\0\0\0\0\0\x01\0\0\0\0\0\0\0\0\0\0\0\0\0\0\0\n\0\0\0\0\0\0\0\x01\0\0\0\0\0\0\0\0\0\0\0\x03\0\0\0\0\0\0\0\x03\0\0\0\0\0\0\0\0\0\0\0\0\0\0\0\n\0\0\0\0\0\0\0\x03\x0d\0\0\0\0\0\0\0\x02\0\0\0\0\0\0\0\0\0\0\0\0\0\0\0\n\0\0\0\0\0\0\0\x02\0\0\0\x02\0\0\0\x01\xd5]V\xb7#\xf8z\x8b:,\xf8\xda\x97\xab\xe8\xba\xf8\xf0\x95Wt\x9c\x88\xe5\xcf\xe5\x87\x86d2\xdf2";
+    b"RMTS\x01\0\0\0\0\0\0\0\x03\
+      \0\0\0\0\0\0\0\x01\0\0\0\0\0\0\0\0\0\0\0\0\0\0\0\n\0\0\0\0\0\0\0\x01\x01\0\x01V\
+      \0\0\0\0\0\0\0\x02\0\0\0\0\0\0\0\0\0\0\0\0\0\0\0\n\0\0\0\0\0\0\0\x02\x03\
+      \0\0\0\0\0\0\0\0\0\0\0\0\0\0\0\0\0\0\0\0\0\0\0\0\0\0\0\0\0\0\0\0\
+      \0\0\0\0\0\0\0\x01\0\0\0\0\0\0\0\0\0\0\0\0\0\0\0\n\0\0\0\0\0\0\0\x01\0\0\0\0\0\0\0\0\
+      \0\0\0\x03\
+      \0\0\0\0\0\0\0\x03\0\0\0\0\0\0\0\0\0\0\0\0\0\0\0\n\0\0\0\0\0\0\0\x03\x0d\
+      \0\0\0\0\0\0\0\x02\0\0\0\0\0\0\0\0\0\0\0\0\0\0\0\n\0\0\0\0\0\0\0\x02\0\0\0\x02\0\0\0\x01\
+      \xd5]V\xb7#\xf8z\x8b:,\xf8\xda\x97\xab\xe8\xba\xf8\xf0\x95Wt\x9c\x88\xe5\xcf\xe5\x87\x86d2\
+      \xdf2";
 
-/// The log of a marker and a length of it, in the version that knows no length.
+/// The log of a marker and a length of it, in the version that has no lengths.
 const A_LENGTH_IN_VERSION_2: &[u8] =
-    b"RMTS\x02\0\0\0\0\0\0\0\x02\0\0\0\0\0\0\0\x01\0\0\0\0\0\0\0\0\0\0\0\0\0\0\0\n\0\0\0\0\0\0\0\x01\n\0\0\x01\xe0\x04News\0\0\0\0\0\0\0\x02\0\0\0\0\0\0\0\0\0\0\0\0\0\0\0\n\0\0\0\0\0\0\0\x02\x0e\0\0\0\0\0\0\0\x01\0\0\0\0\0\0\0\0\0\0\0\0\0\0\0\n\0\0\0\0\0\0\0\x01\0\0\0`\xf9Z\x0f\xd7\xc0\0 \xab\x12\x16S!\xed$\0\0n\xaa\xe4\xc9q9?\x9b\xf2\xd1\x11\x14\xbbX\xc2\xfe";
+    b"RMTS\x02\0\0\0\0\0\0\0\x02\
+      \0\0\0\0\0\0\0\x01\0\0\0\0\0\0\0\0\0\0\0\0\0\0\0\n\0\0\0\0\0\0\0\x01\n\0\0\x01\xe0\x04News\
+      \0\0\0\0\0\0\0\x02\0\0\0\0\0\0\0\0\0\0\0\0\0\0\0\n\0\0\0\0\0\0\0\x02\x0e\
+      \0\0\0\0\0\0\0\x01\0\0\0\0\0\0\0\0\0\0\0\0\0\0\0\n\0\0\0\0\0\0\0\x01\0\0\0`\
+      \xf9Z\x0f\xd7\xc0\0 \xab\x12\x16S!\xed$\0\0n\xaa\xe4\xc9q9?\x9b\xf2\xd1\x11\x14\xbbX\xc2\xfe";
 
 /// The log of a track and a clip on it that fades in over 1,048,577 frames.
 const A_FADE_TOO_LONG: &[u8] =
-    b"RMTS\x02\0\0\0\0\0\0\0\x03\0\0\0\0\0\0\0\x01\0\0\0\0\0\0\0\0\0\0\0\0\0\0\0\n\0\0\0\0\0\0\0\x01\x01\0\x01V\0\0\0\0\0\0\0\x02\0\0\0\0\0\0\0\0\0\0\0\0\0\0\0\n\0\0\0\0\0\0\0\x02\x03\0\0\0\0\0\0\0\0\0\0\0\0\0\0\0\0\0\0\0\0\0\0\0\0\0\0\0\0\0\0\0\0\0\0\0\0\0\0\0\x01\0\0\0\0\0\0\0\0\0\0\0\0\0\0\0\n\0\0\0\0\0\0\0\x01\0\0\0\0\0\0\0\0\0\0\0\x03\0\0\0\0\0\0\0\x03\0\0\0\0\0\0\0\0\0\0\0\0\0\0\0\n\0\0\0\0\0\0\0\x03\x0d\0\0\0\0\0\0\0\x02\0\0\0\0\0\0\0\0\0\0\0\0\0\0\0\n\0\0\0\0\0\0\0\x02\0\x10\0\x01\0\0\0\x0075\x81]}\xfb\x03\xe1`\x10Si\x11\xbbn\xb5\x99\xefN\xc0\xc6\xe7\x0d\x90\xa3zSg\xa0\x04<\xfa";
+    b"RMTS\x02\0\0\0\0\0\0\0\x03\
+      \0\0\0\0\0\0\0\x01\0\0\0\0\0\0\0\0\0\0\0\0\0\0\0\n\0\0\0\0\0\0\0\x01\x01\0\x01V\
+      \0\0\0\0\0\0\0\x02\0\0\0\0\0\0\0\0\0\0\0\0\0\0\0\n\0\0\0\0\0\0\0\x02\x03\
+      \0\0\0\0\0\0\0\0\0\0\0\0\0\0\0\0\0\0\0\0\0\0\0\0\0\0\0\0\0\0\0\0\
+      \0\0\0\0\0\0\0\x01\0\0\0\0\0\0\0\0\0\0\0\0\0\0\0\n\0\0\0\0\0\0\0\x01\0\0\0\0\0\0\0\0\
+      \0\0\0\x03\
+      \0\0\0\0\0\0\0\x03\0\0\0\0\0\0\0\0\0\0\0\0\0\0\0\n\0\0\0\0\0\0\0\x03\x0d\0\0\0\0\0\0\0\x02\0\
+      \0\0\0\0\0\0\0\0\0\0\0\0\0\0\n\0\0\0\0\0\0\0\x02\0\x10\0\x01\0\0\0\x0075\x81]}\xfb\x03\xe1`\
+      \x10Si\x11\xbbn\xb5\x99\xefN\xc0\xc6\xe7\x0d\x90\xa3zSg\xa0\x04<\xfa";
 
-// What bytes are refused as.
+// The error for these bytes.
 fn log_fault(alloc: Global, bytes: &[u8]) -> Option<LogFault> {
     Log::read(alloc, bytes).err()
 }
 
 // The log of one marker with a count of 2.
 const COUNT_2: &[u8] =
-    b"RMTS\x01\0\0\0\0\0\0\0\x02\0\0\0\0\0\0\0\x01\0\0\0\0\0\0\0\0\0\0\0\0\0\0\0\n\0\0\0\0\0\0\0\x01\n\0\0\x01\xe0\x04News\xba'\xe6\x05@\xf1\x8c\xa5\xb3'\x94!IG\x13J7\x0c\xac\x14\x9b<Lxv\xd3\xbdJ\x9e3?W";
+    b"RMTS\x01\0\0\0\0\0\0\0\x02\
+      \0\0\0\0\0\0\0\x01\0\0\0\0\0\0\0\0\0\0\0\0\0\0\0\n\0\0\0\0\0\0\0\x01\n\0\0\x01\xe0\x04News\
+      \xba'\xe6\x05@\xf1\x8c\xa5\xb3'\x94!IG\x13J7\x0c\xac\x14\x9b<Lxv\xd3\xbdJ\x9e3?W";
 
 // The same operation twice.
 const TWICE: &[u8] =
-    b"RMTS\x01\0\0\0\0\0\0\0\x02\0\0\0\0\0\0\0\x01\0\0\0\0\0\0\0\0\0\0\0\0\0\0\0\n\0\0\0\0\0\0\0\x01\n\0\0\x01\xe0\x04News\0\0\0\0\0\0\0\x01\0\0\0\0\0\0\0\0\0\0\0\0\0\0\0\n\0\0\0\0\0\0\0\x01\n\0\0\x01\xe0\x04News\xec\xc5\xcc&\xc7C\xdd\xca{\xc5\xbc\xc1BM\x1a\xa7\xc2\xf2\x02\xab\xde\xfb\x0e\x0d|;\xdb\xee\xf2o1\x91";
+    b"RMTS\x01\0\0\0\0\0\0\0\x02\
+      \0\0\0\0\0\0\0\x01\0\0\0\0\0\0\0\0\0\0\0\0\0\0\0\n\0\0\0\0\0\0\0\x01\n\0\0\x01\xe0\x04News\
+      \0\0\0\0\0\0\0\x01\0\0\0\0\0\0\0\0\0\0\0\0\0\0\0\n\0\0\0\0\0\0\0\x01\n\0\0\x01\xe0\x04News\
+      \xec\xc5\xcc&\xc7C\xdd\xca{\xc5\xbc\xc1BM\x1a\xa7\xc2\xf2\x02\xab\xde\xfb\x0e\x0d|;\xdb\xee\
+      \xf2o1\x91";
 
 // A count of 0 and one operation.
 const COUNT_0: &[u8] =
-    b"RMTS\x01\0\0\0\0\0\0\0\0\0\0\0\0\0\0\0\x01\0\0\0\0\0\0\0\0\0\0\0\0\0\0\0\n\0\0\0\0\0\0\0\x01\n\0\0\x01\xe0\x04News\xae\xc2\x10\x1fr\xd2\x03Q\xae>\"{\xadm\xb7\xdb\x88mp\xdeX@\xa3\xfb6Y\xa3\xf8WO7\xda";
+    b"RMTS\x01\0\0\0\0\0\0\0\0\
+      \0\0\0\0\0\0\0\x01\0\0\0\0\0\0\0\0\0\0\0\0\0\0\0\n\0\0\0\0\0\0\0\x01\n\0\0\x01\xe0\x04News\
+      \xae\xc2\x10\x1fr\xd2\x03Q\xae>\"{\xadm\xb7\xdb\x88mp\xdeX@\xa3\xfb6Y\xa3\xf8WO7\xda";
 
 // row: damaged_logs
 #[test]
@@ -198,7 +227,7 @@ fn refuses_damaged_logs(rt: HostRuntime) {
     }
 }
 
-// How long the operation is that begins at a place of bytes, or why there is none.
+// The length of the operation that begins at this position, or the error.
 fn op_len_at(alloc: Global, bytes: &[u8], place: usize) -> Result<usize, ReadFault> {
     op_len(alloc, bytes.get(place..).unwrap_or(&[]))
 }

@@ -1,4 +1,4 @@
-//! Each growth refused in turn.
+//! Each allocation fails in turn.
 use super::tags::put_removal_of;
 use mt_op::{Op, OpFault};
 use mt_opcodec::{Log, LogFault, ReadFault, read_op, write_op};
@@ -8,10 +8,10 @@ use std::alloc::{AllocError, Allocator, Global};
 use std::test::Fail;
 use test_kit::{A, Refusing, marker};
 
-/// How many operations the logs have: enough that the vector of them grows more than once.
+/// The number of operations in the logs: enough that their vector grows more than once.
 const MANY: u64 = 10;
 
-// The operation of a text. `Trailing` stands for what no text here is refused as.
+// The operation of a text. `Trailing` stands for an error that no text here has.
 fn op_of<M: Allocator + Copy>(memory: M, text: &[u8]) -> Result<(Op<M>, usize), LogFault> {
     match read_op(memory, text) {
         Ok(read) => Ok(read),
@@ -27,7 +27,7 @@ fn read_op_len<M: Allocator + Copy>(memory: M, text: &[u8]) -> Result<usize, Log
     }
 }
 
-// How many bytes an operation is written as, where they are these.
+// The number of bytes of a written operation, if they are these.
 fn written_as<M: Allocator + Copy>(
     out: &mut Vec<u8, M>,
     op: &Op<M>,
@@ -37,7 +37,7 @@ fn written_as<M: Allocator + Copy>(
     Ok(if out.as_slice() == text { out.len() } else { 0 })
 }
 
-/// The same of the operation of a text.
+/// The number of bytes of the operation of a text, when it is written back.
 pub(crate) fn written_op_len<M: Allocator + Copy>(
     memory: M,
     text: &[u8],
@@ -48,7 +48,7 @@ pub(crate) fn written_op_len<M: Allocator + Copy>(
     }
 }
 
-/// A marker with this number. `Trailing` stands for what no marker here is refused as.
+/// A marker with this number. `Trailing` stands for an error that no marker here has.
 fn numbered<M: Allocator>(memory: M, seq: u64) -> Result<Op<M>, LogFault> {
     let stamp = Stamp::new(1, A, seq).map_err(|_| LogFault::Trailing)?;
     match marker(memory, stamp, "News at nine o'clock") {
@@ -62,7 +62,7 @@ fn add<M: Allocator + Copy>(log: &mut Log<M>, memory: M, seq: u64) -> Result<boo
     log.add(numbered(memory, seq)?)
 }
 
-/// Adds `MANY` markers of one replica, and gives the first refusal.
+/// Adds `MANY` markers of one replica, and returns the first error.
 fn fill<M: Allocator + Copy>(log: &mut Log<M>, memory: M) -> Result<(), LogFault> {
     for seq in 1..=MANY {
         let _new = add(log, memory, seq)?;
@@ -70,7 +70,7 @@ fn fill<M: Allocator + Copy>(log: &mut Log<M>, memory: M) -> Result<(), LogFault
     Ok(())
 }
 
-// The text of a log of those.
+// The text of a log of these markers.
 fn text_of_many<M: Allocator + Copy>(memory: M) -> Result<Vec<u8, M>, LogFault> {
     let mut log = Log::new(memory);
     match fill(&mut log, memory) {
@@ -79,7 +79,7 @@ fn text_of_many<M: Allocator + Copy>(memory: M) -> Result<Vec<u8, M>, LogFault> 
     }
 }
 
-// How many bytes the text of such a log has, where it is this one.
+// The number of bytes in the text of such a log, if it is this one.
 fn written_len<M: Allocator + Copy>(memory: M, text: &[u8]) -> Result<usize, LogFault> {
     let written = text_of_many(memory)?;
     Ok(if written.as_slice() == text {
@@ -89,7 +89,7 @@ fn written_len<M: Allocator + Copy>(memory: M, text: &[u8]) -> Result<usize, Log
     })
 }
 
-// How many operations two logs have together.
+// The number of operations in the union of two logs.
 fn len_of_both<M: Allocator + Copy>(
     memory: M,
     left: &Log<M>,
@@ -111,14 +111,14 @@ fn merge_filled<M: Allocator + Copy>(
     len_of_both(memory, many, one)
 }
 
-// The same of a log of `MANY` and one of a further one.
+// The number of operations in the union of a log of `MANY` and a log of one more.
 fn merged_len<M: Allocator + Copy>(memory: M) -> Result<usize, LogFault> {
     let mut many = Log::new(memory);
     let mut one = Log::new(memory);
     merge_filled(&mut many, &mut one, memory)
 }
 
-// How many operations the copy of a log has, where it is that log.
+// The number of operations in the copy of a log, if it equals the log.
 fn len_of_copy<M: Allocator + Copy>(log: &Log<M>) -> Result<usize, LogFault> {
     match log.try_clone() {
         Ok(copy) => Ok(if copy == *log { copy.len() } else { 0 }),
@@ -143,7 +143,7 @@ fn read_len<M: Allocator + Copy>(memory: M, text: &[u8]) -> Result<usize, LogFau
     }
 }
 
-/// What takes memory for an operation, or for a log.
+/// Work that allocates, for an operation or a log.
 #[derive(Clone, Copy, Debug)]
 enum Work {
     WriteOp,
@@ -154,7 +154,7 @@ enum Work {
     Read,
 }
 
-// How many bytes or operations it comes to.
+// The resulting number of bytes or operations.
 fn size_of<M: Allocator + Copy>(memory: M, work: Work, text: &[u8]) -> Result<usize, LogFault> {
     match work {
         Work::WriteOp => written_op_len(memory, text),
@@ -166,7 +166,8 @@ fn size_of<M: Allocator + Copy>(memory: M, work: Work, text: &[u8]) -> Result<us
     }
 }
 
-// How often memory is asked for, where this comes to that size and each growth is refused as that.
+// The number of allocations, if the work has this result and each failing allocation is reported as
+// such.
 fn refusals(alloc: Global, work: Work, text: &[u8], size: usize) -> Option<u64> {
     let granted = Refusing::new(alloc, u64::MAX);
     if size_of(&granted, work, text) != Ok(size) {
@@ -189,7 +190,7 @@ fn text_of_numbered(alloc: Global, seq: u64) -> Result<Vec<u8>, LogFault> {
 }
 
 // row: refused_growths
-// Of titles and tags, and of the bytes that are written.
+// Of titles and tags, and of the written bytes.
 #[test]
 fn of_operations(rt: HostRuntime) -> Result<(), Fail> {
     let text = text_of_numbered(rt.alloc(), 1)?;
@@ -209,7 +210,7 @@ fn of_an_operation_of_ten_tags(rt: HostRuntime) -> Result<(), Fail> {
     Ok(())
 }
 
-// The same where the text is that of a log of `MANY`.
+// The number of allocations if the text is that of a log of `MANY`.
 fn refusals_of_many(alloc: Global, work: Work, size: usize) -> Option<u64> {
     match text_of_many(alloc) {
         Ok(text) => refusals(alloc, work, &text, size),
@@ -217,8 +218,8 @@ fn refusals_of_many(alloc: Global, work: Work, size: usize) -> Option<u64> {
     }
 }
 
-/// What each comes to, and how often it asks for memory at the least: for titles, for the logs and
-/// for their texts.
+/// The result of each work, and its least number of allocations: for titles, for the logs and for
+/// their texts.
 const OF_LOGS: [(Work, usize, u64); 4] = [
     (Work::Write, 625, 14),
     (Work::Merge, 11, 26),
@@ -235,15 +236,14 @@ fn of_logs(rt: HostRuntime) {
     }
 }
 
-// What a text is refused as where the growth number 3 is, and how often memory was asked for.
+// The error for a text if the allocation number 3 fails, and the number of allocations.
 fn refused_read(alloc: Global, text: &[u8]) -> (Option<LogFault>, u64) {
     let memory = Refusing::new(alloc, 3);
     let fault = Log::read(&memory, text).err();
     (fault, memory.allocations())
 }
 
-// The text of a log of the first version, with this count and this record, and with the digest that
-// belongs to them.
+// The text of a log of the first version with this count, this record and the right digest.
 fn text_of(alloc: Global, count: u64, record: &[u8]) -> Result<Vec<u8>, AllocError> {
     let mut bytes = Vec::new(alloc);
     bytes.extend_from_slice(b"RMTS\x01")?;
@@ -255,8 +255,8 @@ fn text_of(alloc: Global, count: u64, record: &[u8]) -> Result<Vec<u8>, AllocErr
 }
 
 // row: damaged_logs_counts
-/// A count that no log can have is no reason to ask for memory: it is asked for one title, one
-/// operation in its run, and one run in the log.
+/// A count that no log can have causes no allocation: the allocations are those for one title, for
+/// one operation in its run, and for one run in the log.
 #[test]
 fn of_a_log_with_too_great_a_count(rt: HostRuntime) -> Result<(), Fail> {
     let text = text_of(rt.alloc(), u64::MAX, &text_of_numbered(rt.alloc(), 1)?)?;

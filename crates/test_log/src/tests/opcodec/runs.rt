@@ -1,5 +1,5 @@
-//! What takes memory to add to logs and to join them, with each growth refused in turn. Which log
-//! comes of it, and at which dot two clash, the clauses say of every log.
+//! Work that allocates to add to logs and to join them; each allocation fails in turn. The
+//! contracts define the resulting log for every input, and the dot of a conflict.
 use mt_op::{Op, OpFault};
 use mt_opcodec::{Log, LogFault};
 use mt_stamp::{Replica, Stamp};
@@ -9,8 +9,8 @@ use test_kit::{A, B, Refusing, marker};
 /// A third replica.
 const C: Replica = Replica(12);
 
-/// A marker of this dot at a clock that follows its number. `Trailing` stands for what no marker
-/// here is refused as.
+/// A marker with this dot at a clock that follows its number. `Trailing` stands for an error that
+/// no marker here has.
 fn op_of<M: Allocator>(memory: M, replica: Replica, seq: u64) -> Result<Op<M>, LogFault> {
     let stamp = Stamp::new(seq, replica, seq).map_err(|_| LogFault::Trailing)?;
     match marker(memory, stamp, "News at nine o'clock") {
@@ -20,7 +20,7 @@ fn op_of<M: Allocator>(memory: M, replica: Replica, seq: u64) -> Result<Op<M>, L
     }
 }
 
-/// Adds the marker of a dot.
+/// Adds the marker with a dot.
 fn add_dot<M: Allocator + Copy>(
     log: &mut Log<M>,
     memory: M,
@@ -30,7 +30,7 @@ fn add_dot<M: Allocator + Copy>(
     log.add(op_of(memory, replica, seq)?)
 }
 
-/// Adds those of these dots, in this order.
+/// Adds the markers with these dots, in this order.
 fn add_dots<M: Allocator + Copy>(
     log: &mut Log<M>,
     memory: M,
@@ -63,7 +63,7 @@ const DOTS: [(Replica, u64); 8] = [
     (A, 4),
 ];
 
-// Adds operations of these dots until one is refused memory: how many were added.
+// Adds operations with these dots until an allocation fails; returns how many were added.
 fn added<M: Allocator + Copy>(log: &mut Log<M>, memory: M, dots: &[(Replica, u64)]) -> usize {
     for (i, (replica, seq)) in dots.iter().enumerate() {
         if add_dot(log, memory, *replica, *seq) == Err(LogFault::Memory) {
@@ -73,7 +73,8 @@ fn added<M: Allocator + Copy>(log: &mut Log<M>, memory: M, dots: &[(Replica, u64
     dots.len()
 }
 
-// How many are added, whether as many then stand, and how many there are once all were added again.
+// How many were added, whether the log then has this number, and its number after all were added
+// again.
 fn added_twice<M: Allocator + Copy>(memory: M) -> (usize, bool, usize) {
     let mut log = Log::new(memory);
     let first = added(&mut log, memory, &DOTS);
@@ -82,15 +83,15 @@ fn added_twice<M: Allocator + Copy>(memory: M) -> (usize, bool, usize) {
     (first, are_kept, log.len())
 }
 
-// Whether one is refused memory where the growth number `at` is, those before it stand, and all are
-// there once they were added again.
+// Whether the addition stops at the failing allocation number `at`, the earlier operations are
+// there, and all are there after they were added again.
 fn goes_on_after(alloc: Global, at: u64) -> bool {
     let memory = Refusing::new(alloc, at);
     let (first, are_kept, count) = added_twice(&memory);
     first < DOTS.len() && are_kept && count == DOTS.len()
 }
 
-// How often memory is asked for where all are added.
+// The number of allocations for adding all.
 fn allocs_of_adding(alloc: Global) -> u64 {
     let granted = Refusing::new(alloc, u64::MAX);
     let count = added(&mut Log::new(&granted), &granted, &DOTS);
@@ -114,14 +115,14 @@ fn of_a_log_of_two_runs(rt: HostRuntime) {
     }
 }
 
-// How many operations two logs have together.
+// The number of operations in the union of two logs.
 fn joined_len<M: Allocator + Copy>(memory: M) -> Result<usize, LogFault> {
     let left = log_with(memory, &LEFT)?;
     let all = left.join(log_with(memory, &RIGHT)?)?;
     Ok(all.len())
 }
 
-// The same of two that are seen to agree first.
+// The number of operations in the union of two logs that are first compared for conflicts.
 fn agreeing_len<M: Allocator + Copy>(memory: M) -> Result<usize, LogFault> {
     let left = log_with(memory, &LEFT)?;
     let right = log_with(memory, &RIGHT)?;
@@ -131,19 +132,19 @@ fn agreeing_len<M: Allocator + Copy>(memory: M) -> Result<usize, LogFault> {
     }
 }
 
-// How many operations a log refers to.
+// The number of operations that a log refers to.
 fn count_of_references<M: Allocator + Copy>(memory: M) -> Result<usize, LogFault> {
     let log = log_with(memory, &LEFT)?;
     Ok(log.refs(memory)?.len())
 }
 
-/// The dots of the two.
+/// The dots of the two logs.
 const LEFT: [(Replica, u64); 3] = [(A, 1), (A, 3), (B, 1)];
 
 const RIGHT: [(Replica, u64); 3] = [(A, 2), (B, 2), (C, 1)];
 
-// Adds so many logs to a list, each with two operations: of a replica of its own, so that its run
-// is moved whole, or one that all have and one that only it has.
+// Adds `count` logs to a list, each with two operations: either of its own replica, so that its run
+// is moved whole, or one that all logs have and one that only it has.
 fn push_logs<M: Allocator + Copy>(
     many: &mut Vec<Log<M>, M>,
     memory: M,
@@ -161,7 +162,7 @@ fn push_logs<M: Allocator + Copy>(
     Ok(())
 }
 
-// How many operations their union has.
+// The number of operations in the union of these logs.
 fn len_of_many<M: Allocator + Copy>(memory: M, logs: u64, apart: bool) -> Result<usize, LogFault> {
     let mut many = Vec::new(memory);
     match push_logs(&mut many, memory, logs, apart) {
@@ -170,7 +171,7 @@ fn len_of_many<M: Allocator + Copy>(memory: M, logs: u64, apart: bool) -> Result
     }
 }
 
-/// What takes memory for several logs.
+/// Work that allocates, for several logs.
 #[derive(Clone, Copy, Debug)]
 enum Work {
     Join,
@@ -181,7 +182,7 @@ enum Work {
     JoinApart,
 }
 
-// How many operations it comes to.
+// The resulting number of operations.
 fn len_of<M: Allocator + Copy>(memory: M, work: Work) -> Result<usize, LogFault> {
     match work {
         Work::Join => joined_len(memory),
@@ -193,7 +194,8 @@ fn len_of<M: Allocator + Copy>(memory: M, work: Work) -> Result<usize, LogFault>
     }
 }
 
-// How often memory is asked for, where this comes to so many and each growth is refused as that.
+// The number of allocations, if the work has this result and each failing allocation is reported as
+// such.
 fn refusals(alloc: Global, work: Work, len: usize) -> Option<u64> {
     let granted = Refusing::new(alloc, u64::MAX);
     if len_of(&granted, work) != Ok(len) {
@@ -208,7 +210,7 @@ fn refusals(alloc: Global, work: Work, len: usize) -> Option<u64> {
     Some(granted.allocations())
 }
 
-// Of titles, runs and their lists, and of what was seen.
+// Of titles, runs and their lists, and of the record of the comparison.
 #[test]
 fn of_several_logs(rt: HostRuntime) {
     for (work, len, least) in [

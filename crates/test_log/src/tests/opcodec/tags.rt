@@ -18,8 +18,8 @@ fn put_parts<M: Allocator>(
     bytes.extend_from_slice(&seq.to_be_bytes())
 }
 
-/// Appends the bytes of the operation `(9, B, 1)` that removes this count of tags of the item `(1,
-/// A, 1)`, up to the first tag.
+/// Appends the bytes of the operation `(9, B, 1)` that removes this number of tags of the item
+/// `(1, A, 1)`, up to the first tag.
 fn put_removal<M: Allocator>(bytes: &mut Vec<u8, M>, count: u16) -> Result<(), AllocError> {
     put_parts(bytes, 9, B, 1)?;
     bytes.push(8)?;
@@ -27,7 +27,7 @@ fn put_removal<M: Allocator>(bytes: &mut Vec<u8, M>, count: u16) -> Result<(), A
     bytes.extend_from_slice(&count.to_be_bytes())
 }
 
-/// Appends that operation with so many tags of the replica A.
+/// Appends that operation with `count` tags of the replica A.
 pub fn put_removal_of<M: Allocator>(bytes: &mut Vec<u8, M>, count: u16) -> Result<(), AllocError> {
     put_removal(bytes, count)?;
     for seq in 1..=count as u64 {
@@ -36,7 +36,7 @@ pub fn put_removal_of<M: Allocator>(bytes: &mut Vec<u8, M>, count: u16) -> Resul
     Ok(())
 }
 
-// What bytes are refused as, and how often memory was asked for.
+// The error for these bytes, and the number of allocations.
 fn refused_read(alloc: Global, bytes: &[u8]) -> (Option<ReadFault>, u64) {
     let memory = Refusing::new(alloc, u64::MAX);
     let fault = read_op(&memory, bytes).err();
@@ -44,7 +44,7 @@ fn refused_read(alloc: Global, bytes: &[u8]) -> (Option<ReadFault>, u64) {
 }
 
 // row: damaged_logs_counts
-// A count alone takes no memory.
+// A count alone causes no allocation.
 #[test]
 fn takes_no_memory_for_a_count(rt: HostRuntime) -> Result<(), Fail> {
     let mut bytes = Vec::new(rt.alloc());

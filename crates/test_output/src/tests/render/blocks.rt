@@ -12,9 +12,34 @@ const FRAMES: usize = 10000;
 const LONG_HEAD: &[u8] =
     b"RIFFDN\0\0WAVEfmt \x10\0\0\0\x01\0\x01\0\x80\xbb\0\0\0w\x01\0\x02\0\x10\0data N\0\0";
 
-// Three clips of it, at gains and with fades, on two tracks at gains.
+// Three clips of it, with gains and fades, on two tracks with gains.
 const LONG_LOG: &[u8] =
-    b"RMTS\x02\0\0\0\0\0\0\0\n\0\0\0\0\0\0\0\x01\0\0\0\0\0\0\0\0\0\0\0\0\0\0\0\n\0\0\0\0\0\0\0\x01\x01\0\x05Voice\0\0\0\0\0\0\0\x02\0\0\0\0\0\0\0\0\0\0\0\0\0\0\0\n\0\0\0\0\0\0\0\x02\x03\xcd*Y3\\\x80BU\xfe\xb2\xe8\xcc\xad\xa7\xff_\0I\x08\x92\xbd\x80\x9b\xd9\x030w\xefM(v\xed\0\0\0\0\0\0\0\x01\0\0\0\0\0\0\0\0\0\0\0\0\0\0\0\n\0\0\0\0\0\0\0\x01\0\0\0\0\0\0\0\0\0\0'\x10\0\0\0\0\0\0\0\x03\0\0\0\0\0\0\0\0\0\0\0\0\0\0\0\n\0\0\0\0\0\0\0\x03\x06\0\0\0\0\0\0\0\x02\0\0\0\0\0\0\0\0\0\0\0\0\0\0\0\n\0\0\0\0\0\0\0\x02\0\x07\0\n\0\0\0\0\0\0\0\x04\0\0\0\0\0\0\0\0\0\0\0\0\0\0\0\n\0\0\0\0\0\0\0\x04\x0d\0\0\0\0\0\0\0\x02\0\0\0\0\0\0\0\0\0\0\0\0\0\0\0\n\0\0\0\0\0\0\0\x02\0\0\x0f\xa0\0\0\x0b\xb8\0\0\0\0\0\0\0\x05\0\0\0\0\0\0\0\0\0\0\0\0\0\0\0\n\0\0\0\0\0\0\0\x05\x03\xcd*Y3\\\x80BU\xfe\xb2\xe8\xcc\xad\xa7\xff_\0I\x08\x92\xbd\x80\x9b\xd9\x030w\xefM(v\xed\0\0\0\0\0\0\0\x01\0\0\0\0\0\0\0\0\0\0\0\0\0\0\0\n\0\0\0\0\0\0\0\x01\0\0\x09\xc4\0\0\0d\0\0\x13\x88\0\0\0\0\0\0\0\x06\0\0\0\0\0\0\0\0\0\0\0\0\0\0\0\n\0\0\0\0\0\0\0\x06\x0d\0\0\0\0\0\0\0\x05\0\0\0\0\0\0\0\0\0\0\0\0\0\0\0\n\0\0\0\0\0\0\0\x05\0\0\x03\x09\0\0\0\0\0\0\0\0\0\0\0\x08\0\0\0\0\0\0\0\0\0\0\0\0\0\0\0\n\0\0\0\0\0\0\0\x08\x06\0\0\0\0\0\0\0\x01\0\0\0\0\0\0\0\0\0\0\0\0\0\0\0\n\0\0\0\0\0\0\0\x01\0\x03\0\x04\0\0\0\0\0\0\0\x01\0\0\0\0\0\0\0\0\0\0\0\0\0\0\0\x0b\0\0\0\0\0\0\0\x01\x01\0\x05Music\0\0\0\0\0\0\0\x06\0\0\0\0\0\0\0\0\0\0\0\0\0\0\0\x0b\0\0\0\0\0\0\0\x02\x03\xcd*Y3\\\x80BU\xfe\xb2\xe8\xcc\xad\xa7\xff_\0I\x08\x92\xbd\x80\x9b\xd9\x030w\xefM(v\xed\0\0\0\0\0\0\0\x01\0\0\0\0\0\0\0\0\0\0\0\0\0\0\0\x0b\0\0\0\0\0\0\0\x01\0\0\0!\0\0\x13\x88\0\0#(\0\0\0\0\0\0\0\x09\0\0\0\0\0\0\0\0\0\0\0\0\0\0\0\x0b\0\0\0\0\0\0\0\x03\x06\0\0\0\0\0\0\0\x01\0\0\0\0\0\0\0\0\0\0\0\0\0\0\0\x0b\0\0\0\0\0\0\0\x01\xff\xff\x7f\xff\xe0\xa2\x8aq\0\x03\xbb\xd2\xd4\xd6h\x1f\x93\xa4\xef\x04\xe2\x0c\xf4\xb3\x0e\xaa\x130\x01\xbb\xaa=y$\x16\xbb";
+    b"RMTS\x02\0\0\0\0\0\0\0\n\
+      \0\0\0\0\0\0\0\x01\0\0\0\0\0\0\0\0\0\0\0\0\0\0\0\n\0\0\0\0\0\0\0\x01\x01\0\x05Voice\
+      \0\0\0\0\0\0\0\x02\0\0\0\0\0\0\0\0\0\0\0\0\0\0\0\n\0\0\0\0\0\0\0\x02\x03\
+      \xcd*Y3\\\x80BU\xfe\xb2\xe8\xcc\xad\xa7\xff_\0I\x08\x92\xbd\x80\x9b\xd9\x030w\xefM(v\xed\
+      \0\0\0\0\0\0\0\x01\0\0\0\0\0\0\0\0\0\0\0\0\0\0\0\n\0\0\0\0\0\0\0\x01\0\0\0\0\0\0\0\0\0\0'\x10\
+      \0\0\0\0\0\0\0\x03\0\0\0\0\0\0\0\0\0\0\0\0\0\0\0\n\0\0\0\0\0\0\0\x03\x06\
+      \0\0\0\0\0\0\0\x02\0\0\0\0\0\0\0\0\0\0\0\0\0\0\0\n\0\0\0\0\0\0\0\x02\0\x07\0\n\
+      \0\0\0\0\0\0\0\x04\0\0\0\0\0\0\0\0\0\0\0\0\0\0\0\n\0\0\0\0\0\0\0\x04\x0d\
+      \0\0\0\0\0\0\0\x02\0\0\0\0\0\0\0\0\0\0\0\0\0\0\0\n\0\0\0\0\0\0\0\x02\0\0\x0f\xa0\0\0\x0b\xb8\
+      \0\0\0\0\0\0\0\x05\0\0\0\0\0\0\0\0\0\0\0\0\0\0\0\n\0\0\0\0\0\0\0\x05\x03\
+      \xcd*Y3\\\x80BU\xfe\xb2\xe8\xcc\xad\xa7\xff_\0I\x08\x92\xbd\x80\x9b\xd9\x030w\xefM(v\xed\
+      \0\0\0\0\0\0\0\x01\0\0\0\0\0\0\0\0\0\0\0\0\0\0\0\n\0\0\0\0\0\0\0\x01\0\0\x09\xc4\0\0\0d\
+      \0\0\x13\x88\
+      \0\0\0\0\0\0\0\x06\0\0\0\0\0\0\0\0\0\0\0\0\0\0\0\n\0\0\0\0\0\0\0\x06\x0d\
+      \0\0\0\0\0\0\0\x05\0\0\0\0\0\0\0\0\0\0\0\0\0\0\0\n\0\0\0\0\0\0\0\x05\0\0\x03\x09\0\0\0\0\
+      \0\0\0\0\0\0\0\x08\0\0\0\0\0\0\0\0\0\0\0\0\0\0\0\n\0\0\0\0\0\0\0\x08\x06\
+      \0\0\0\0\0\0\0\x01\0\0\0\0\0\0\0\0\0\0\0\0\0\0\0\n\0\0\0\0\0\0\0\x01\0\x03\0\x04\
+      \0\0\0\0\0\0\0\x01\0\0\0\0\0\0\0\0\0\0\0\0\0\0\0\x0b\0\0\0\0\0\0\0\x01\x01\0\x05Music\
+      \0\0\0\0\0\0\0\x06\0\0\0\0\0\0\0\0\0\0\0\0\0\0\0\x0b\0\0\0\0\0\0\0\x02\x03\
+      \xcd*Y3\\\x80BU\xfe\xb2\xe8\xcc\xad\xa7\xff_\0I\x08\x92\xbd\x80\x9b\xd9\x030w\xefM(v\xed\
+      \0\0\0\0\0\0\0\x01\0\0\0\0\0\0\0\0\0\0\0\0\0\0\0\x0b\0\0\0\0\0\0\0\x01\0\0\0!\0\0\x13\x88\
+      \0\0#(\
+      \0\0\0\0\0\0\0\x09\0\0\0\0\0\0\0\0\0\0\0\0\0\0\0\x0b\0\0\0\0\0\0\0\x03\x06\
+      \0\0\0\0\0\0\0\x01\0\0\0\0\0\0\0\0\0\0\0\0\0\0\0\x0b\0\0\0\0\0\0\0\x01\xff\xff\x7f\xff\
+      \xe0\xa2\x8aq\0\x03\xbb\xd2\xd4\xd6h\x1f\x93\xa4\xef\x04\xe2\x0c\xf4\xb3\x0e\xaa\x130\x01\xbb\
+      \xaa=y$\x16\xbb";
 
 // The recording.
 fn recording(alloc: Global) -> Result<Vec<u8>, AllocError> {
@@ -26,7 +51,7 @@ fn recording(alloc: Global) -> Result<Vec<u8>, AllocError> {
     Ok(bytes)
 }
 
-// A number that each sample and its place changes.
+// A checksum that depends on each sample and its position.
 fn sum_up(before: u64, samples: &[i32]) -> u64 {
     let mut sum = before;
     for sample in samples {
@@ -36,8 +61,8 @@ fn sum_up(before: u64, samples: &[i32]) -> u64 {
     sum
 }
 
-// The programme on two channels, in blocks of so many frames, as such a number; none where a block
-// is not filled.
+// The checksum of the programme on two channels, in blocks of `frames` frames; `None` if a block is
+// not filled.
 fn in_blocks(mix: &Mix<'_, '_>, frames: usize) -> Option<u64> {
     let mut samples = [7; 20000];
     let (mut sum, mut done) = (0, 0);
@@ -54,7 +79,7 @@ fn in_blocks(mix: &Mix<'_, '_>, frames: usize) -> Option<u64> {
     if done == FRAMES { Some(sum) } else { None }
 }
 
-// The same in blocks of 1, 7 and 4,096 frames, and in one.
+// The checksums for blocks of 1, 7 and 4,096 frames, and for a single block.
 fn in_all_blocks(mix: &Mix<'_, '_>) -> [Option<u64>; 4] {
     [
         in_blocks(mix, 1),
@@ -64,7 +89,7 @@ fn in_all_blocks(mix: &Mix<'_, '_>) -> [Option<u64>; 4] {
     ]
 }
 
-// The same of a session over the recording.
+// The checksums for a session over the recording.
 fn blocks_of(alloc: Global, session: &Session, bytes: &[u8]) -> Option<[Option<u64>; 4]> {
     let mut catalogue = Catalogue::new(alloc);
     catalogue.add(bytes).ok()?;

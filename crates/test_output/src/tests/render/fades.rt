@@ -1,5 +1,5 @@
-//! Clips at gains that fade in and out: each sample beside the formula as it stands, in 128 bits,
-//! which every way to it has to give.
+//! Clips with gains that fade in and out: each sample is compared with the plain formula, in 128
+//! bits, which every way of computing it must match.
 
 use super::fill;
 use mt_op::{Body, Digest, Gain, Op};
@@ -13,11 +13,11 @@ use test_kit::{A, add_track};
 
 const FRAMES: usize = 60;
 
-// A wave file of 32 bits on one channel, 256 frames a second, up to its 60 samples.
+// A wave file of 32 bits on one channel, 256 frames per second, up to its 60 samples.
 const HEAD: &[u8] =
     b"RIFF\xff\xff\0\0WAVEfmt \x10\0\0\0\x01\0\x01\0\0\x01\0\0\0\0\0\0\x04\0\x20\0data\xf0\0\0\0";
 
-// A clip's gain and its track's, and how long the clip fades in and out.
+// The gains of a clip and of its track, and the lengths of the clip's fades.
 #[derive(Clone, Copy)]
 struct Played {
     clip: (u16, u16),
@@ -25,7 +25,7 @@ struct Played {
     fades: (u32, u32),
 }
 
-// What an operation does to the clip or its track.
+// The body of an operation on the clip or its track.
 fn body_of(number: u64, source: Digest, played: Played) -> Option<Body> {
     let (track, clip) = (Stamp::new(1, A, 1).ok()?, Stamp::new(2, A, 2).ok()?);
     match number {
@@ -69,7 +69,7 @@ fn session_of(alloc: Global, source: Digest, played: Played) -> Option<Session> 
     from_scratch(alloc, &log).ok()
 }
 
-// Fills a block of the mix of a session over a recording, and tells whether it lies in the
+// Fills a block of the mix of a session over a recording, and returns whether it lies inside the
 // programme.
 fn sounds(
     alloc: Global,
@@ -93,7 +93,7 @@ fn sample(index: usize) -> i32 {
     some[index % 5]
 }
 
-// A numerator and a divisor under a fade, so many frames from its silent end.
+// A numerator and a divisor under a fade, at this distance from its silent end.
 fn under((p, q): (i128, i128), fade: u32, frames: u32) -> (i128, i128) {
     if fade == 0 {
         return (p, q);
@@ -104,7 +104,7 @@ fn under((p, q): (i128, i128), fade: u32, frames: u32) -> (i128, i128) {
     )
 }
 
-// The formula of one frame, in 24 bits.
+// The formula for one frame, in 24 bits.
 fn plain(index: usize, played: Played) -> i32 {
     let ((cn, cd), (tn, td)) = (played.clip, played.track);
     let x = i128::from(sample(index));
@@ -118,7 +118,7 @@ fn plain(index: usize, played: Played) -> i32 {
     (sum.wrapping_add(128) >> 8).clamp(-8388608, 8388607) as i32
 }
 
-// Whether the samples are those of the formula, from a frame on.
+// Whether the samples are those of the formula, from this frame on.
 fn are_plain(samples: &[i32], first: usize, played: Played) -> bool {
     let mut same = true;
     for index in 0..samples.len() {
@@ -127,7 +127,7 @@ fn are_plain(samples: &[i32], first: usize, played: Played) -> bool {
     same
 }
 
-// Whether a session sounds as the formula says, in two blocks.
+// Whether the samples of a session, in two blocks, are those of the formula.
 fn is_plain(alloc: Global, session: &Session, bytes: &[u8], played: Played) -> bool {
     let mut front = [7; 23];
     let mut rest = [7; 37];
@@ -137,7 +137,7 @@ fn is_plain(alloc: Global, session: &Session, bytes: &[u8], played: Played) -> b
         && are_plain(&rest, 23, played)
 }
 
-// The same of one clip of a recording.
+// Whether this holds for one clip of a recording.
 fn sounds_plain(alloc: Global, bytes: &[u8], played: Played) -> bool {
     match session_of(alloc, Digest::of(bytes), played) {
         Some(session) => is_plain(alloc, &session, bytes, played),
@@ -155,7 +155,8 @@ fn recording(alloc: Global) -> Result<Vec<u8>, AllocError> {
 
 const LONGEST: u32 = 1048576;
 
-// gains of each way, and fades of none, that meet, that overlap, and that are longer than the clip
+// gains of each kind; and fades of length 0, that meet, that overlap, and that are longer than the
+// clip
 #[test]
 fn sounds_as_the_formula_says(rt: HostRuntime) -> Result<(), Fail> {
     let bytes = recording(rt.alloc())?;

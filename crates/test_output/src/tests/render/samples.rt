@@ -23,7 +23,7 @@ fn is_heard(mix: &Mix<'_, '_>, wanted: &[i32]) -> bool {
     }
 }
 
-// The same of a session over recordings, in 16 bits on so many channels.
+// Whether those of a session over recordings are these, in 16 bits on a number of channels.
 fn is_mixed(
     alloc: Global,
     session: &Session,
@@ -39,7 +39,7 @@ fn is_mixed(
     }
 }
 
-// The same of a log.
+// Whether those of a log are these.
 fn sounds(alloc: Global, log: &[u8], sources: (&[&[u8]], u16), wanted: &[i32]) -> bool {
     match session_of(alloc, log) {
         Some(session) => is_mixed(alloc, &session, sources, wanted) == Some(true),

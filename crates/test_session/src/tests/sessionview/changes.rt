@@ -1,6 +1,6 @@
-//! One entry of a session that is put in, with its growth refused. What is left of the session, and
-//! what it is to take an entry out, to move it and to give it other values, the clauses say; the
-//! tests of editors mend sessions by all of it.
+//! One entry that is inserted into a session while allocations fail. The contracts define the
+//! session after it, and what it means to remove, move or change an entry; the tests of editors
+//! update sessions in all these ways.
 
 ghost use Rattle.std.specs.Prelude.{◌≡◌, [], IfOk};
 
@@ -11,7 +11,7 @@ use std::alloc::{Allocator, Global};
 use std::test::Fail;
 use test_kit::{A, Refusing};
 
-// A session of no track and no marker.
+// A session without tracks and markers.
 fn nothing<M: Allocator + Copy>(memory: M) -> Session<M>
     ensures tracks { result.tracks ≡ [] }
     ensures markers { result.markers ≡ [] }
@@ -58,7 +58,7 @@ fn clip_at(place: Stamp) -> ClipView {
     }
 }
 
-// How many tracks there are once a track and its clip are put in.
+// The number of tracks after a track and its clip are inserted.
 fn count_of_tracks<M: Allocator + Copy>(memory: M, stamp: Stamp) -> Result<usize, SessionFault> {
     let track = voice(memory, stamp)?;
     let mut session = nothing(memory);
@@ -76,7 +76,7 @@ fn marker_at<M: Allocator>(title: Title<M>, marker: Stamp) -> MarkerView<M> {
     }
 }
 
-// How many markers there are once one is put in.
+// The number of markers after one is inserted.
 fn count_of_markers<M: Allocator + Copy>(memory: M, stamp: Stamp) -> Result<usize, SessionFault> {
     let title = title(memory)?;
     let mut session = nothing(memory);
@@ -84,14 +84,14 @@ fn count_of_markers<M: Allocator + Copy>(memory: M, stamp: Stamp) -> Result<usiz
     Ok(session.markers.items().len())
 }
 
-// What both come to where one growth is refused.
+// Both numbers if one allocation fails.
 fn counts_at(alloc: Global, at: u64, stamp: Stamp) -> [Result<usize, SessionFault>; 2] {
     let (first, second) = (Refusing::new(alloc, at), Refusing::new(alloc, at));
     let tracks = count_of_tracks(&first, stamp);
     [tracks, count_of_markers(&second, stamp)]
 }
 
-// The title and the list of tracks and that of its clips; the title and the list of markers.
+// The title, the list of tracks and the list of clips; the title and the list of markers.
 #[test]
 fn refuses_each_allocation_of_a_session(rt: HostRuntime) -> Result<(), Fail> {
     let stamp = Stamp::new(3, A, 3)?;

@@ -1,4 +1,4 @@
-//! The text of a log's session.
+//! The text of the session of a log.
 use super::{Item, allocs_of_log, session_of};
 use mt_opcodec::Latch;
 use mt_sessionview::{Session, SessionFault, write_text};
@@ -9,12 +9,14 @@ use test_kit::{FailingWriter, Refusing};
 
 const TEXT: &str = "\
 track 2.2.00000000-0000-0000-0000-00000000000a gain 1/1 mute off title Voice
-clip 3.3.00000000-0000-0000-0000-00000000000a place 3.3.00000000-0000-0000-0000-00000000000a at 48 offset 4 len 8 gain 1/1 mute off source 0707070707070707070707070707070707070707070707070707070707070707
+clip 3.3.00000000-0000-0000-0000-00000000000a place 3.3.00000000-0000-0000-0000-00000000000a at 48 \
+offset 4 len 8 gain 1/1 mute off source \
+0707070707070707070707070707070707070707070707070707070707070707
 marker 1.1.00000000-0000-0000-0000-00000000000a at 480 title News
 held 1
 ";
 
-// A marker, a retitle of another one that is not there, and a track that is moved, with a clip.
+// A marker, a retitle of a missing marker, and a track that is moved, with a clip.
 const ITEMS: [Item; 5] = [
     Item::Voice,
     Item::Moved,
@@ -23,7 +25,7 @@ const ITEMS: [Item; 5] = [
     Item::Early,
 ];
 
-// How long this front of the text is.
+// The length of the written text, if it is a prefix of the expected one.
 fn front_of(written: &[u8]) -> Option<usize> {
     if TEXT.as_bytes().starts_with(written) {
         Some(written.len())
@@ -32,11 +34,12 @@ fn front_of(written: &[u8]) -> Option<usize> {
     }
 }
 
-// What writing a session's text came to: the answer, whether the output failed, and how long a
-// front of the text it has.
+// The result of writing a session's text, whether the output failed, and the length of the prefix
+// that was written.
 type Written = (Result<(), SessionFault>, bool, Option<usize>);
 
-// Writes a session's text to an output that fails at the write of this number, each of one byte.
+// Writes a session's text to an output that takes one byte at a time and fails at the write with
+// this number.
 fn written(alloc: Global, session: &Session, good: usize) -> Written {
     let mut output = Latch::new(FailingWriter::new(alloc, good, ErrorKind::Other));
     let answer = write_text(session, &mut output);
@@ -44,8 +47,8 @@ fn written(alloc: Global, session: &Session, good: usize) -> Written {
     (answer, failed, front_of(output.into_inner().written()))
 }
 
-// How many writes fail in turn, until the whole text is written; none where a failed write is
-// answered otherwise.
+// How many writes can fail before the whole text is written; `None` if a failed write gives another
+// result.
 fn failed_writes(alloc: Global, session: &Session) -> Option<usize> {
     for good in 0..TEXT.len() {
         if written(alloc, session, good) != (Err(SessionFault::Write), true, Some(good)) {
@@ -65,7 +68,8 @@ fn writes_a_front_where_the_output_fails(rt: HostRuntime) -> Result<(), Fail> {
     Ok(())
 }
 
-// How many tracks and markers a session of these operations shows, and how many it holds.
+// The number of tracks and markers of a session of these operations, and the number of held
+// operations.
 fn counts_of<M: Allocator + Clone>(
     memory: &M,
     items: &[Item],
@@ -78,7 +82,7 @@ fn counts_of<M: Allocator + Clone>(
     ))
 }
 
-// The same where one growth is refused, and whether one was.
+// The result if one allocation fails, and whether it failed.
 fn refused_counts(alloc: Global, at: u64) -> (Result<(usize, usize, u64), SessionFault>, bool) {
     let memory = Refusing::new(alloc, at);
     let made = counts_of(&&memory, &ITEMS);
