@@ -5,7 +5,7 @@ import re
 import textwrap
 
 TOP = os.path.dirname(os.path.dirname(os.path.dirname(os.path.abspath(__file__))))
-STRING = r'"((?:[^"\\]|\\.)*)"'
+STRING = r'"((?:[^"\\]|\\[\s\S])*)"'
 WIDTH = 100
 
 
@@ -39,4 +39,7 @@ def table(heads, rows):
 
 
 def unescaped(text):
+    """The value of a string literal, in which a backslash at the end of a line leaves out the line
+    feed and the spaces after it."""
+    text = re.sub(r"\\\n\s*", "", text)
     return re.sub(r"\\(.)", lambda place: {"n": "\n"}.get(place.group(1), place.group(1)), text)

@@ -21,7 +21,8 @@ const FROM_A_PROGRAM: &str =
     "No file or script causes this error; a program that uses the library has to correct its call.";
 
 const DAMAGED_LOG: &str =
-    "The file is damaged or comes from another program: use another editor's copy, or an older one.";
+    "The file is damaged or comes from another program: use another editor's copy, or an older \
+        one.";
 
 /// The refusals of stamps, operations and their bytes.
 const OF_OPERATIONS: [Refusal; 11] = [
@@ -53,7 +54,8 @@ const OF_OPERATIONS: [Refusal; 11] = [
         number: 4,
         name: "BadText",
         meaning: "a word is not a stamp, or not a replica",
-        advice: "A replica is a UUID; a stamp is clock.number.replica, as `radio view` prints it. The track of `radio lay` may also be $ and a line number.",
+        advice: "A replica is a UUID; a stamp is clock.number.replica, as `radio view` prints it. \
+            The track of `radio lay` may also be $ and a line number.",
     },
     Refusal {
         number: 5,
@@ -65,7 +67,8 @@ const OF_OPERATIONS: [Refusal; 11] = [
         number: 6,
         name: "ZeroLength",
         meaning: "a clip would have no frames",
-        advice: "Give the clip a length of at least 1 frame. Leave recordings without frames out of `radio lay`; `--why` names them.",
+        advice: "Give the clip a length of at least 1 frame. Leave recordings without frames out \
+            of `radio lay`; `--why` names them.",
     },
     Refusal {
         number: 7,
@@ -99,7 +102,8 @@ const OF_LOGS: [Refusal; 10] = [
         number: 11,
         name: "BadMagic",
         meaning: "a file is not a log: it does not begin with RMTS",
-        advice: "Check that each LOG is a log and not a recording or a script; `--why` names the file.",
+        advice: "Check that each LOG is a log and not a recording or a script; `--why` names the \
+            file.",
     },
     Refusal {
         number: 12,
@@ -117,7 +121,8 @@ const OF_LOGS: [Refusal; 10] = [
         number: 14,
         name: "BadRecord",
         meaning: "a record of a log is not an operation",
-        advice: "The log may come from a newer version of radio: use that version, or another editor's copy.",
+        advice: "The log may come from a newer version of radio: use that version, or another \
+            editor's copy.",
     },
     Refusal {
         number: 15,
@@ -135,7 +140,9 @@ const OF_LOGS: [Refusal; 10] = [
         number: 17,
         name: "Conflict, Merge",
         meaning: "two different operations have the same name",
-        advice: "Two editors used the same UUID, or an older copy was edited again. Keep one of the two logs, and repeat the other's edits under a new UUID. `--why` names the log and the operation.",
+        advice: "Two editors used the same UUID, or an older copy was edited again. Keep one of \
+            the two logs, and repeat the other's edits under a new UUID. `--why` names the log \
+            and the operation.",
     },
     Refusal {
         number: 18,
@@ -162,8 +169,11 @@ const OF_EDITS: [Refusal; 5] = [
     Refusal {
         number: 21,
         name: "NoSuchItem",
-        meaning: "there is no such item; or `find --one` found none or several; or `revert` names an operation that is not in the log",
-        advice: "Look up the stamp with `radio view`: it follows `track`, `clip` or `marker`. A marker has no gain, and a clip no title. For `find --one`, `--why` prints how many items there are. `radio log` prints the stamps of all operations.",
+        meaning: "there is no such item; or `find --one` found none or several; or `revert` names \
+            an operation that is not in the log",
+        advice: "Look up the stamp with `radio view`: it follows `track`, `clip` or `marker`. A \
+            marker has no gain, and a clip no title. For `find --one`, `--why` prints how many \
+            items there are. `radio log` prints the stamps of all operations.",
     },
     Refusal {
         number: 22,
@@ -187,7 +197,8 @@ const OF_EDITS: [Refusal; 5] = [
         number: 25,
         name: "TooManyTags",
         meaning: "an item was restored over 65,534 times and cannot be removed in one operation",
-        advice: "Mute the track or clip instead, or move the marker after the end of the programme.",
+        advice: "Mute the track or clip instead, or move the marker after the end of the \
+            programme.",
     },
 ];
 
@@ -197,19 +208,23 @@ const OF_WAVES: [Refusal; 7] = [
         number: 26,
         name: "NotRiff",
         meaning: "a file is not a RIFF file",
-        advice: "Check that each recording is a WAVE file (`file NAME`); RF64, RIFX, FLAC and MP3 are not read.",
+        advice: "Check that each recording is a WAVE file (`file NAME`); RF64, RIFX, FLAC and MP3 \
+            are not read.",
     },
     Refusal {
         number: 27,
         name: "NotWave",
         meaning: "a RIFF file is not WAVE, or has size 0, as an unfinished recording does",
-        advice: "Finish or repair the recording: `sox --ignore-length IN OUT` writes the sizes again; `xxd -l 12 NAME` shows size and kind.",
+        advice: "Finish or repair the recording: `sox --ignore-length IN OUT` writes the sizes \
+            again; `xxd -l 12 NAME` shows size and kind.",
     },
     Refusal {
         number: 28,
         name: "Truncated",
         meaning: "a chunk of a wave file is longer than the file",
-        advice: "The copy was cut short, or the recording was not finished: copy it again, or repair it with `sox --ignore-length IN OUT`. `sndfile-info NAME` shows which size is wrong.",
+        advice: "The copy was cut short, or the recording was not finished: copy it again, or \
+            repair it with `sox --ignore-length IN OUT`. `sndfile-info NAME` shows which size is \
+            wrong.",
     },
     Refusal {
         number: 29,
@@ -221,13 +236,15 @@ const OF_WAVES: [Refusal; 7] = [
         number: 30,
         name: "BadFmt",
         meaning: "the `fmt ` chunk of a wave file is too short or contradicts itself",
-        advice: "Convert the recording with `sox IN OUT` or `ffmpeg -i IN OUT`; `sndfile-info NAME` shows the chunk.",
+        advice: "Convert the recording with `sox IN OUT` or `ffmpeg -i IN OUT`; `sndfile-info \
+            NAME` shows the chunk.",
     },
     Refusal {
         number: 31,
         name: "Unsupported",
         meaning: "a wave file is not PCM of 8, 16, 24 or 32 bits",
-        advice: "Convert it: `sox IN -e signed-integer -b 24 OUT`. `mediainfo NAME` shows its format.",
+        advice: "Convert it: `sox IN -e signed-integer -b 24 OUT`. `mediainfo NAME` shows its \
+            format.",
     },
     Refusal {
         number: 32,
@@ -243,25 +260,33 @@ const OF_RENDERING: [Refusal; 4] = [
         number: 33,
         name: "MissingSource",
         meaning: "the recording of an audible clip is missing",
-        advice: "Add the recording to the command line: `--why` prints its digest, and `radio sources LOG FILE...` lists all recordings with their files, and those that are missing.",
+        advice: "Add the recording to the command line: `--why` prints its digest, and `radio \
+            sources LOG FILE...` lists all recordings with their files, and those that are \
+            missing.",
     },
     Refusal {
         number: 34,
         name: "RateDiffers",
         meaning: "a recording has another sample rate than the programme",
-        advice: "`--why` names it. Render at that rate (`--rate`), or convert the recording (`sox IN -r RATE OUT`) and place it again: its digest has changed.",
+        advice: "`--why` names it. Render at that rate (`--rate`), or convert the recording (`sox \
+            IN -r RATE OUT`) and place it again: its digest has changed.",
     },
     Refusal {
         number: 35,
         name: "TooLong",
-        meaning: "the programme is too long for a wave file, or a clip would begin after frame 4294967295",
-        advice: "Look for a clip that was placed far after the others by mistake, or render fewer channels or bits. For `radio lay`, `--why` names the recording that would begin too late: use fewer recordings, or a smaller --at or --gap.",
+        meaning: "the programme is too long for a wave file, or a clip would begin after frame \
+            4294967295",
+        advice: "Look for a clip that was placed far after the others by mistake, or render fewer \
+            channels or bits. For `radio lay`, `--why` names the recording that would begin too \
+            late: use fewer recordings, or a smaller --at or --gap.",
     },
     Refusal {
         number: 36,
         name: "BadHead",
         meaning: "a text for the header of the wave file is not allowed",
-        advice: "`--why` names the option. Use printable ASCII, at most 256 bytes for --description and 32 for --originator and --reference; --date is dddd-dd-dd and --time is dd:dd:dd.",
+        advice: "`--why` names the option. Use printable ASCII, at most 256 bytes for \
+            --description and 32 for --originator and --reference; --date is dddd-dd-dd and \
+            --time is dd:dd:dd.",
     },
 ];
 
@@ -271,38 +296,50 @@ const OF_FILES_AND_PARTS: [Refusal; 16] = [
     Refusal {
         number: 37,
         name: "Write",
-        meaning: "the output cannot be created, written or renamed; or OUT.part exists; or OUT exists and --new was given; or another program has replaced the log OUT since it was read",
-        advice: "`--why` says which. Check free space and the permissions of the folder. If another program was changing the same log, run the command again. Delete OUT.part if no program is writing it. A broken conversation may also be 37: meet again.",
+        meaning: "the output cannot be created, written or renamed; or OUT.part exists; or OUT \
+            exists and --new was given; or another program has replaced the log OUT since it was \
+            read",
+        advice: "`--why` says which. Check free space and the permissions of the folder. If \
+            another program was changing the same log, run the command again. Delete OUT.part if \
+            no program is writing it. A broken conversation may also be 37: meet again.",
     },
     Refusal {
         number: 38,
         name: "BadMessage",
         meaning: "what another editor sent is not a message, or not of the expected kind",
-        advice: "Check the order of the files (`radio help COMMAND`). A file that was damaged on the way has to be sent again.",
+        advice: "Check the order of the files (`radio help COMMAND`). A file that was damaged on \
+            the way has to be sent again.",
     },
     Refusal {
         number: 39,
         name: "OutOfTurn",
         meaning: "another editor sent a message out of turn, or continued after the end",
-        advice: "Files: OPS is written by `radio lack`. Conversations: one editor serves and the other meets, and nothing else uses that address.",
+        advice: "Files: OPS is written by `radio lack`. Conversations: one editor serves and the \
+            other meets, and nothing else uses that address.",
     },
     Refusal {
         number: 40,
         name: "FrameTooLong",
         meaning: "a message is longer than 8,388,608 bytes",
-        advice: "Check that the file was written by `radio have` or `radio lack`, or that an editor serves at the address.",
+        advice: "Check that the file was written by `radio have` or `radio lack`, or that an \
+            editor serves at the address.",
     },
     Refusal {
         number: 41,
         name: "BadLine",
         meaning: "a line of a script is not a change",
-        advice: "`--why` prints the line number. Look for a misspelt word, a wrong digest, a gain that is not NUM/DEN (-6 dB is 501/1000), a time where frames are expected (only `--time` accepts 0:01:30.5, 1.5s and -6dB), a number with a leading zero, two spaces or a tab, CR line ends, a byte order mark, a fade over 1,048,576 frames, or a `$k` of a line that adds nothing.",
+        advice: "`--why` prints the line number. Look for a misspelt word, a wrong digest, a gain \
+            that is not NUM/DEN (-6 dB is 501/1000), a time where frames are expected (only \
+            `--time` accepts 0:01:30.5, 1.5s and -6dB), a number with a leading zero, two spaces \
+            or a tab, CR line ends, a byte order mark, a fade over 1,048,576 frames, or a `$k` \
+            of a line that adds nothing.",
     },
     Refusal {
         number: 42,
         name: "Refused",
         meaning: "a change in a script cannot be made (6, or 21 to 25)",
-        advice: "`--why` prints the line and the error of its change. Check that the items of the line exist and were not removed, and that a clip has at least one frame.",
+        advice: "`--why` prints the line and the error of its change. Check that the items of the \
+            line exist and were not removed, and that a clip has at least one frame.",
     },
     Refusal {
         number: 43,
@@ -320,13 +357,16 @@ const OF_FILES_AND_PARTS: [Refusal; 16] = [
         number: 45,
         name: "Read",
         meaning: "an input cannot be opened or read",
-        advice: "Check that each file exists, is not a folder, and may be read; `--why` names the file. `radio new LOG` creates an empty log. `serve` and `meet`: a conversation that broke off or timed out is 45, 37 or 49; meet again.",
+        advice: "Check that each file exists, is not a folder, and may be read; `--why` names the \
+            file. `radio new LOG` creates an empty log. `serve` and `meet`: a conversation that \
+            broke off or timed out is 45, 37 or 49; meet again.",
     },
     Refusal {
         number: 46,
         name: "Net",
         meaning: "an address cannot be bound, or nobody answers there",
-        advice: "Check that the address is HOST:PORT, that the server was started first, and that no other program uses the port.",
+        advice: "Check that the address is HOST:PORT, that the server was started first, and that \
+            no other program uses the port.",
     },
     Refusal {
         number: 47,
@@ -344,13 +384,15 @@ const OF_FILES_AND_PARTS: [Refusal; 16] = [
         number: 49,
         name: "Ended",
         meaning: "what another editor sent ends too early",
-        advice: "No file was changed: ask for it to be sent again, or meet again. A broken conversation may also be 45 or 37.",
+        advice: "No file was changed: ask for it to be sent again, or meet again. A broken \
+            conversation may also be 45 or 37.",
     },
     Refusal {
         number: 50,
         name: "BadDigest",
         meaning: "a word is not a digest",
-        advice: "A digest is the 64 hex digits that `radio info` prints. `radio find LOG clip` expects a digest, or a file name with --wave.",
+        advice: "A digest is the 64 hex digits that `radio info` prints. `radio find LOG clip` \
+            expects a digest, or a file name with --wave.",
     },
     Refusal {
         number: 51,

@@ -15,8 +15,21 @@ use std::rt::Files;
 
 pub(crate) const WORDS: Words = Words {
     name: "check",
-    about: "Checks a programme before rendering: fails as render would, and lists what may sound unexpected",
-    after: "Example: radio check desk.log jingle.wav interview.wav --channels 2\n\nFails whenever `radio render` with these words would, and writes no file. Otherwise it prints one line for each\nclip that continues after the end of its recording, `past-end CLIP end N frames N`;\nclip that other clips cover completely, `covered CLIP`;\nrecording of which some channels are not played, `one-channel DIGEST channels N`;\nmarker after the end of the programme, `behind MARKER at N`;\noperation that waits for another, `held STAMP needs STAMP`;\nand at the end `warnings N`, the number of these lines.\n\nExit status: 0 done; 1 failed (`radio: fault N`, see `radio explain N`); 2 wrong command line.",
+    about: "Checks a programme before rendering: fails as render would, and lists what may sound \
+        unexpected",
+    after: "Example: radio check desk.log jingle.wav interview.wav --channels 2\n\
+        \n\
+        Fails whenever `radio render` with these words would, and writes no file. Otherwise it \
+        prints one line for each\n\
+        clip that continues after the end of its recording, `past-end CLIP end N frames N`;\n\
+        clip that other clips cover completely, `covered CLIP`;\n\
+        recording of which some channels are not played, `one-channel DIGEST channels N`;\n\
+        marker after the end of the programme, `behind MARKER at N`;\n\
+        operation that waits for another, `held STAMP needs STAMP`;\n\
+        and at the end `warnings N`, the number of these lines.\n\
+        \n\
+        Exit status: 0 done; 1 failed (`radio: fault N`, see `radio explain N`); 2 wrong command \
+        line.",
     words: &[
         Word::Needed {
             name: "LOG",

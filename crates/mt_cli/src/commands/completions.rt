@@ -9,7 +9,16 @@ use std::io::Write;
 pub(crate) const WORDS: Words = Words {
     name: "completions",
     about: "Prints the completion script for a shell",
-    after: "Example: radio completions bash\n\nIt completes commands, options, fixed values and file names. bash: source it, or save it as\n~/.local/share/bash-completion/completions/radio; zsh: save it as _radio in a folder of $fpath;\nfish: save it as ~/.config/fish/completions/radio.fish.\n\nExit status: 0 done; 1 failed (`radio: fault N`, see `radio explain N`); 2 wrong command line.",
+    after: "Example: radio completions bash\n\
+        \n\
+        It completes commands, options, fixed values and file names. bash: source it, or save it \
+        as\n\
+        ~/.local/share/bash-completion/completions/radio; zsh: save it as _radio in a folder of \
+        $fpath;\n\
+        fish: save it as ~/.config/fish/completions/radio.fish.\n\
+        \n\
+        Exit status: 0 done; 1 failed (`radio: fault N`, see `radio explain N`); 2 wrong command \
+        line.",
     words: &[Word::OneOf {
         name: "SHELL",
         names: &["bash", "zsh", "fish"],

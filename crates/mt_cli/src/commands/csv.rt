@@ -11,7 +11,14 @@ use std::rt::Files;
 pub(crate) const WORDS: Words = Words {
     name: "csv",
     about: "Prints the session of a log as one table, for a spreadsheet",
-    after: "Example: radio csv --rate 48000 desk.log > desk.csv\n\nA row for each track, its clips, and each marker. Titles are printed unchanged: a spreadsheet may read one that begins\nwith =, +, - or @ as a formula, so import the column as text.\n\nExit status: 0 done; 1 failed (`radio: fault N`, see `radio explain N`); 2 wrong command line.",
+    after: "Example: radio csv --rate 48000 desk.log > desk.csv\n\
+        \n\
+        A row for each track, its clips, and each marker. Titles are printed unchanged: a \
+        spreadsheet may read one that begins\n\
+        with =, +, - or @ as a formula, so import the column as text.\n\
+        \n\
+        Exit status: 0 done; 1 failed (`radio: fault N`, see `radio explain N`); 2 wrong command \
+        line.",
     words: &[
         Word::Needed {
             name: "LOG",
@@ -21,7 +28,8 @@ pub(crate) const WORDS: Words = Words {
             name: "rate",
             least: 1,
             greatest: 384_000,
-            help: "Print positions and lengths in seconds, at N frames a second (default: in frames)",
+            help: "Print positions and lengths in seconds, at N frames a second (default: in \
+                frames)",
         },
     ],
     below: &[],

@@ -11,7 +11,15 @@ use std::rt::Files;
 pub(crate) const WORDS: Words = Words {
     name: "cues",
     about: "Prints script lines that add a marker for each cue point of recordings",
-    after: "Example: radio cues --at 48000 interview.wav > cues.txt\n\nPrints `add-marker AT LABEL` for each cue point, and `marker-length $k LEN` if it has a length: lines for `radio edit`.\nEvery WAVE begins at --at. A byte of a label that a title cannot have becomes \\x and two digits.\n\nExit status: 0 done; 1 failed (`radio: fault N`, see `radio explain N`); 2 wrong command line.",
+    after: "Example: radio cues --at 48000 interview.wav > cues.txt\n\
+        \n\
+        Prints `add-marker AT LABEL` for each cue point, and `marker-length $k LEN` if it has a \
+        length: lines for `radio edit`.\n\
+        Every WAVE begins at --at. A byte of a label that a title cannot have becomes \\x and \
+        two digits.\n\
+        \n\
+        Exit status: 0 done; 1 failed (`radio: fault N`, see `radio explain N`); 2 wrong command \
+        line.",
     words: &[
         Word::Many {
             name: "WAVE",

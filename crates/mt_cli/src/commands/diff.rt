@@ -12,7 +12,14 @@ use std::rt::Files;
 pub(crate) const WORDS: Words = Words {
     name: "diff",
     about: "Prints the operations that only one of two logs has",
-    after: "Example: radio diff desk.log home.log\n\nOperations are sorted by stamp: `- ` marks those that only LEFT has, `+ ` those that only RIGHT has, and `! ` two\ndifferent operations with the same name. The last lines count them.\n\nExit status: 0 done, whether they differ or not; 1 failed (`radio: fault N`, see `radio explain N`); 2 wrong command line.",
+    after: "Example: radio diff desk.log home.log\n\
+        \n\
+        Operations are sorted by stamp: `- ` marks those that only LEFT has, `+ ` those that \
+        only RIGHT has, and `! ` two\n\
+        different operations with the same name. The last lines count them.\n\
+        \n\
+        Exit status: 0 done, whether they differ or not; 1 failed (`radio: fault N`, see `radio \
+        explain N`); 2 wrong command line.",
     words: &[
         Word::Needed {
             name: "LEFT",
@@ -25,12 +32,14 @@ pub(crate) const WORDS: Words = Words {
         Word::Choice {
             name: "fields",
             others: &["view"],
-            help: "Also print `both ITEM FIELD STAMP STAMP` for each field that both changed, with the last change of LEFT and of RIGHT",
+            help: "Also print `both ITEM FIELD STAMP STAMP` for each field that both changed, \
+                with the last change of LEFT and of RIGHT",
         },
         Word::Choice {
             name: "view",
             others: &["fields"],
-            help: "Print instead the lines of `radio view` that LEFT (`- `) or RIGHT (`+ `) alone shows",
+            help: "Print instead the lines of `radio view` that LEFT (`- `) or RIGHT (`+ `) alone \
+                shows",
         },
         AS_TIMES,
         TIMES_RATE,

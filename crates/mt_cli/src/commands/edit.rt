@@ -15,7 +15,26 @@ use std::rt::Files;
 pub(crate) const WORDS: Words = Words {
     name: "edit",
     about: "Applies the changes of a script, all or none, and writes the new log",
-    after: "Example: radio edit 00000000-0000-0000-0000-00000000000a desk.log changes.txt desk.log\n\nEach line of SCRIPT is one change, with one space between words:\n  add-track AFTER TITLE, add-clip DIGEST TRACK AT OFFSET LEN, add-marker AT TITLE, retitle ITEM TITLE,\n  move-track ITEM AFTER, move-clip CLIP TRACK AT, move-marker ITEM AT, trim-clip ITEM OFFSET LEN,\n  gain ITEM NUM/DEN, mute ITEM on, mute ITEM off, fade ITEM IN OUT, marker-length ITEM LEN, remove ITEM, restore ITEM\nITEM, TRACK and CLIP are stamps as `radio view` prints them, or $k for what line k adds; AFTER is a track, or `head`\nfor the top. AT, OFFSET, LEN, IN and OUT are frames, or times with --time. NUM/DEN is a factor such as 1/2, or decibels\nwith --time. DIGEST is what `radio info` prints. Two lines:\n  add-marker 480 Headlines\n  move-marker 1.1.00000000-0000-0000-0000-00000000000a 96000\n\nExit status: 0 done; 1 failed (`radio: fault N`, see `radio explain N`); 2 wrong command line.",
+    after: "Example: radio edit 00000000-0000-0000-0000-00000000000a desk.log changes.txt \
+        desk.log\n\
+        \n\
+        Each line of SCRIPT is one change, with one space between words:\n  \
+        add-track AFTER TITLE, add-clip DIGEST TRACK AT OFFSET LEN, add-marker AT TITLE, \
+        retitle ITEM TITLE,\n  \
+        move-track ITEM AFTER, move-clip CLIP TRACK AT, move-marker ITEM AT, trim-clip ITEM \
+        OFFSET LEN,\n  \
+        gain ITEM NUM/DEN, mute ITEM on, mute ITEM off, fade ITEM IN OUT, marker-length ITEM \
+        LEN, remove ITEM, restore ITEM\n\
+        ITEM, TRACK and CLIP are stamps as `radio view` prints them, or $k for what line k adds; \
+        AFTER is a track, or `head`\n\
+        for the top. AT, OFFSET, LEN, IN and OUT are frames, or times with --time. NUM/DEN is a \
+        factor such as 1/2, or decibels\n\
+        with --time. DIGEST is what `radio info` prints. Two lines:\n  \
+        add-marker 480 Headlines\n  \
+        move-marker 1.1.00000000-0000-0000-0000-00000000000a 96000\n\
+        \n\
+        Exit status: 0 done; 1 failed (`radio: fault N`, see `radio explain N`); 2 wrong command \
+        line.",
     words: &[
         Word::Needed {
             name: "REPLICA",
@@ -35,7 +54,8 @@ pub(crate) const WORDS: Words = Words {
         },
         Word::Flag {
             name: "time",
-            help: "Also accept times (0:01:30.5, 1.5s) and decibels (-6dB), at --rate frames a second",
+            help: "Also accept times (0:01:30.5, 1.5s) and decibels (-6dB), at --rate frames a \
+                second",
         },
         TIMES_RATE,
         NEW,

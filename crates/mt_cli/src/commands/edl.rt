@@ -13,7 +13,15 @@ use text_edl::FrameRate;
 pub(crate) const WORDS: Words = Words {
     name: "edl",
     about: "Prints what is audible on a track as an edit decision list, in CMX 3600 format",
-    after: "Example: radio edl --track 2 --fps 25 desk.log > desk.edl\n\nEach event has the first eight digits of the recording's digest as its reel, and the whole digest in a comment.\nPositions between two video frames are rounded, with the exact frames in a comment. Fails (35) for over 999 events.\n\nExit status: 0 done; 1 failed (`radio: fault N`, see `radio explain N`); 2 wrong command line.",
+    after: "Example: radio edl --track 2 --fps 25 desk.log > desk.edl\n\
+        \n\
+        Each event has the first eight digits of the recording's digest as its reel, and the \
+        whole digest in a comment.\n\
+        Positions between two video frames are rounded, with the exact frames in a comment. \
+        Fails (35) for over 999 events.\n\
+        \n\
+        Exit status: 0 done; 1 failed (`radio: fault N`, see `radio explain N`); 2 wrong command \
+        line.",
     words: &[
         Word::Needed {
             name: "LOG",
@@ -23,7 +31,8 @@ pub(crate) const WORDS: Words = Words {
             name: "track",
             default: "1",
             greatest: u32::MAX as u64,
-            help: "The track, counted from 1 in the order of `radio view`; fails (21) if there is none",
+            help: "The track, counted from 1 in the order of `radio view`; fails (21) if there is \
+                none",
         },
         Word::Limit {
             name: "rate",
@@ -34,7 +43,8 @@ pub(crate) const WORDS: Words = Words {
         Word::Text {
             name: "fps",
             default: "25",
-            help: "Video frames a second: 24, 25, 29.97 (drop-frame) or 30; fails (47) for any other",
+            help: "Video frames a second: 24, 25, 29.97 (drop-frame) or 30; fails (47) for any \
+                other",
         },
         Word::Text {
             name: "title",

@@ -15,7 +15,13 @@ use std::io::Write;
 pub(crate) const WORDS: Words = Words {
     name: "explain",
     about: "Explains error N and what to do about it; without N, lists all errors",
-    after: "Example: radio explain 45\n\nWith --why, a command that fails prints one more line: which input, record, line, option or output caused it.\n\nExit status: 0 done; 1 failed (`radio: fault N`, see `radio explain N`); 2 wrong command line.",
+    after: "Example: radio explain 45\n\
+        \n\
+        With --why, a command that fails prints one more line: which input, record, line, option \
+        or output caused it.\n\
+        \n\
+        Exit status: 0 done; 1 failed (`radio: fault N`, see `radio explain N`); 2 wrong command \
+        line.",
     words: &[Word::Number {
         name: "N",
         greatest: u8::MAX as u64,
@@ -43,7 +49,11 @@ pub(crate) fn run<W: Write>(
 // The message for a number that is not a refusal's, in the form of the parser's errors.
 fn unknown(alloc: Global, number: u8) -> Exit {
     match format!(in alloc;
-        "error: no refusal has the number {number}\n\nUsage: radio explain [N]\n\nFor more information, try '--help'.\n"
+        "error: no refusal has the number {number}\n\
+            \n\
+            Usage: radio explain [N]\n\
+            \n\
+            For more information, try '--help'.\n"
     ) {
         Ok(text) => Exit::Told {
             text,

@@ -17,7 +17,13 @@ use std::rt::Files;
 pub(crate) const WORDS: Words = Words {
     name: "find",
     about: "Finds items by title, or clips by their recording, and prints their stamps",
-    after: "Example: radio find --one desk.log track Music\n\nPrints one stamp per line, in the order of `radio view`, and nothing if there is no such item.\n\nExit status: 0 done; 1 failed (`radio: fault N`, see `radio explain N`); 2 wrong command line.",
+    after: "Example: radio find --one desk.log track Music\n\
+        \n\
+        Prints one stamp per line, in the order of `radio view`, and nothing if there is no such \
+        item.\n\
+        \n\
+        Exit status: 0 done; 1 failed (`radio: fault N`, see `radio explain N`); 2 wrong command \
+        line.",
     words: &[
         Word::Needed {
             name: "LOG",
@@ -30,7 +36,8 @@ pub(crate) const WORDS: Words = Words {
         },
         Word::Needed {
             name: "WHAT",
-            help: "The exact title of a track or marker; for clips, the digest of their recording, or its file with --wave",
+            help: "The exact title of a track or marker; for clips, the digest of their \
+                recording, or its file with --wave",
         },
         Word::Flag {
             name: "one",
@@ -84,7 +91,11 @@ fn find<F: Files + AllocGlobal, W: Write>(
 // The message if a file is named but no clips are searched for, in the form of the parser's errors.
 fn no_clips(alloc: Global) -> Exit {
     let text =
-        "error: the argument '--wave' can only be used with KIND 'clip'\n\nUsage: radio find [OPTIONS] <LOG> <KIND> <WHAT>\n\nFor more information, try '--help'.\n";
+        "error: the argument '--wave' can only be used with KIND 'clip'\n\
+            \n\
+            Usage: radio find [OPTIONS] <LOG> <KIND> <WHAT>\n\
+            \n\
+            For more information, try '--help'.\n";
     match String::from_str(alloc, text) {
         Ok(text) => Exit::Told {
             text,

@@ -11,7 +11,10 @@ use std::rt::Files;
 pub(crate) const WORDS: Words = Words {
     name: "have",
     about: "Writes a summary of a log, from which another editor sees what is missing",
-    after: "Example: radio have home.log home.have\n\nExit status: 0 done; 1 failed (`radio: fault N`, see `radio explain N`); 2 wrong command line.",
+    after: "Example: radio have home.log home.have\n\
+        \n\
+        Exit status: 0 done; 1 failed (`radio: fault N`, see `radio explain N`); 2 wrong command \
+        line.",
     words: &[
         Word::Needed {
             name: "LOG",

@@ -11,7 +11,13 @@ use uuid::Uuid;
 pub(crate) const WORDS: Words = Words {
     name: "id",
     about: "Prints a new name for an editor: a random UUID",
-    after: "Example: radio id\n\nMake one for each editor and keep it: `radio edit` asks for it. No two editors may share one.\n\nExit status: 0 done; 1 failed (`radio: fault N`, see `radio explain N`); 2 wrong command line.",
+    after: "Example: radio id\n\
+        \n\
+        Make one for each editor and keep it: `radio edit` asks for it. No two editors may share \
+        one.\n\
+        \n\
+        Exit status: 0 done; 1 failed (`radio: fault N`, see `radio explain N`); 2 wrong command \
+        line.",
     words: &[],
     below: &[],
 };

@@ -12,7 +12,10 @@ use std::rt::Files;
 pub(crate) const WORDS: Words = Words {
     name: "info",
     about: "Prints the format, texts and cue points of a wave file",
-    after: "Example: radio info jingle.wav\n\nExit status: 0 done; 1 failed (`radio: fault N`, see `radio explain N`); 2 wrong command line.",
+    after: "Example: radio info jingle.wav\n\
+        \n\
+        Exit status: 0 done; 1 failed (`radio: fault N`, see `radio explain N`); 2 wrong command \
+        line.",
     words: &[
         Word::Needed {
             name: "WAVE",

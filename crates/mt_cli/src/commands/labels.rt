@@ -11,7 +11,15 @@ use std::rt::Files;
 pub(crate) const WORDS: Words = Words {
     name: "labels",
     about: "Prints markers as an Audacity label track, or script lines for such a track",
-    after: "Example: radio labels desk.log > desk.txt\n\nA label has START and END in seconds and the marker's title, separated by tabs. `radio labels --read desk.txt` prints\n`add-marker AT TITLE` for each label, and `marker-length $k LEN` if it has a length: lines for `radio edit`.\n\nExit status: 0 done; 1 failed (`radio: fault N`, see `radio explain N`); 2 wrong command line.",
+    after: "Example: radio labels desk.log > desk.txt\n\
+        \n\
+        A label has START and END in seconds and the marker's title, separated by tabs. `radio \
+        labels --read desk.txt` prints\n\
+        `add-marker AT TITLE` for each label, and `marker-length $k LEN` if it has a length: \
+        lines for `radio edit`.\n\
+        \n\
+        Exit status: 0 done; 1 failed (`radio: fault N`, see `radio explain N`); 2 wrong command \
+        line.",
     words: &[
         Word::Needed {
             name: "LOG",
@@ -19,7 +27,8 @@ pub(crate) const WORDS: Words = Words {
         },
         Word::Flag {
             name: "read",
-            help: "Print script lines for the labels of a label track; fails (41) if a line is no label",
+            help: "Print script lines for the labels of a label track; fails (41) if a line is no \
+                label",
         },
         Word::Limit {
             name: "rate",

@@ -11,7 +11,10 @@ use std::rt::Files;
 pub(crate) const WORDS: Words = Words {
     name: "lack",
     about: "Writes the operations of a log that another editor is missing",
-    after: "Example: radio lack desk.log home.have for-home.ops\n\nExit status: 0 done; 1 failed (`radio: fault N`, see `radio explain N`); 2 wrong command line.",
+    after: "Example: radio lack desk.log home.have for-home.ops\n\
+        \n\
+        Exit status: 0 done; 1 failed (`radio: fault N`, see `radio explain N`); 2 wrong command \
+        line.",
     words: &[
         Word::Needed {
             name: "LOG",

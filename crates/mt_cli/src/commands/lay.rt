@@ -12,7 +12,15 @@ use std::rt::Files;
 pub(crate) const WORDS: Words = Words {
     name: "lay",
     about: "Prints script lines that put recordings on a track, one after another",
-    after: "Example: radio lay --at 48000 '$1' jingle.wav interview.wav\n\nPrints `add-clip DIGEST TRACK AT 0 FRAMES` for each WAVE, a clip of the whole recording: the first at --at, each other\nat the end of the one before it plus --gap. The lines are for `radio edit`; if TRACK is $k, line k adds the track.\n\nExit status: 0 done; 1 failed (`radio: fault N`, see `radio explain N`); 2 wrong command line.",
+    after: "Example: radio lay --at 48000 '$1' jingle.wav interview.wav\n\
+        \n\
+        Prints `add-clip DIGEST TRACK AT 0 FRAMES` for each WAVE, a clip of the whole recording: \
+        the first at --at, each other\n\
+        at the end of the one before it plus --gap. The lines are for `radio edit`; if TRACK is \
+        $k, line k adds the track.\n\
+        \n\
+        Exit status: 0 done; 1 failed (`radio: fault N`, see `radio explain N`); 2 wrong command \
+        line.",
     words: &[
         Word::Needed {
             name: "TRACK",

@@ -13,7 +13,10 @@ use std::slice;
 pub(crate) const WORDS: Words = Words {
     name: "log",
     about: "Prints the operations of one or more logs, sorted by stamp",
-    after: "Example: radio log desk.log home.log\n\nExit status: 0 done; 1 failed (`radio: fault N`, see `radio explain N`); 2 wrong command line.",
+    after: "Example: radio log desk.log home.log\n\
+        \n\
+        Exit status: 0 done; 1 failed (`radio: fault N`, see `radio explain N`); 2 wrong command \
+        line.",
     words: &[
         Word::Any {
             name: "LOG",

@@ -8,7 +8,13 @@ use std::io::Write;
 pub(crate) const WORDS: Words = Words {
     name: "man",
     about: "Prints the manual page radio(1) in roff",
-    after: "Example: radio man\n\nShow it with `radio man > radio.1` and `man ./radio.1`; saved as ~/.local/share/man/man1/radio.1, `man radio` finds it.\n\nExit status: 0 done; 1 failed (`radio: fault N`, see `radio explain N`); 2 wrong command line.",
+    after: "Example: radio man\n\
+        \n\
+        Show it with `radio man > radio.1` and `man ./radio.1`; saved as \
+        ~/.local/share/man/man1/radio.1, `man radio` finds it.\n\
+        \n\
+        Exit status: 0 done; 1 failed (`radio: fault N`, see `radio explain N`); 2 wrong command \
+        line.",
     words: &[],
     below: &[],
 };

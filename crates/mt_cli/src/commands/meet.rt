@@ -14,7 +14,10 @@ use std::time::Duration;
 pub(crate) const WORDS: Words = Words {
     name: "meet",
     about: "Connects to an editor who serves, exchanges operations, and writes the new log",
-    after: "Example: radio meet 127.0.0.1:7000 home.log home.log\n\nExit status: 0 done; 1 failed (`radio: fault N`, see `radio explain N`); 2 wrong command line.",
+    after: "Example: radio meet 127.0.0.1:7000 home.log home.log\n\
+        \n\
+        Exit status: 0 done; 1 failed (`radio: fault N`, see `radio explain N`); 2 wrong command \
+        line.",
     words: &[
         Word::Needed {
             name: "ADDR",

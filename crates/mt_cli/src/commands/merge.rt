@@ -11,7 +11,14 @@ use std::rt::Files;
 pub(crate) const WORDS: Words = Words {
     name: "merge",
     about: "Writes all operations of the logs into one new log",
-    after: "Example: radio merge both.log desk.log home.log\n\nOUT is overwritten, not added to: to add home.log to desk.log, use `radio pull desk.log home.log`. `radio merge desk.log`\nalone makes desk.log an empty log, whatever was in it.\n\nExit status: 0 done; 1 failed (`radio: fault N`, see `radio explain N`); 2 wrong command line.",
+    after: "Example: radio merge both.log desk.log home.log\n\
+        \n\
+        OUT is overwritten, not added to: to add home.log to desk.log, use `radio pull desk.log \
+        home.log`. `radio merge desk.log`\n\
+        alone makes desk.log an empty log, whatever was in it.\n\
+        \n\
+        Exit status: 0 done; 1 failed (`radio: fault N`, see `radio explain N`); 2 wrong command \
+        line.",
     words: &[
         Word::Needed {
             name: "OUT",

@@ -11,7 +11,12 @@ use std::rt::Files;
 pub(crate) const WORDS: Words = Words {
     name: "new",
     about: "Creates an empty log",
-    after: "Example: radio new news.log\n\nA file that exists already is never replaced: the command then fails with 37.\n\nExit status: 0 done; 1 failed (`radio: fault N`, see `radio explain N`); 2 wrong command line.",
+    after: "Example: radio new news.log\n\
+        \n\
+        A file that exists already is never replaced: the command then fails with 37.\n\
+        \n\
+        Exit status: 0 done; 1 failed (`radio: fault N`, see `radio explain N`); 2 wrong command \
+        line.",
     words: &[
         Word::Needed {
             name: "LOG",

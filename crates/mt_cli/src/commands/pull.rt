@@ -16,7 +16,17 @@ use std::rt::Files;
 pub(crate) const WORDS: Words = Words {
     name: "pull",
     about: "Adds the operations of other logs to a log, and prints how many were new",
-    after: "Example: radio pull desk.log home.log\n\nFor each FROM, prints `from NAME new N shared N`: how many of its operations were new and how many were there already;\nand at the end `ops N`, the number of operations in LOG. LOG must exist; the FROMs stay as they are. Where two edits\nchange the same thing, the one with the higher stamp wins everywhere; `radio revert` brings the other back.\n\nExit status: 0 done; 1 failed (`radio: fault N`, see `radio explain N`); 2 wrong command line.",
+    after: "Example: radio pull desk.log home.log\n\
+        \n\
+        For each FROM, prints `from NAME new N shared N`: how many of its operations were new \
+        and how many were there already;\n\
+        and at the end `ops N`, the number of operations in LOG. LOG must exist; the FROMs stay \
+        as they are. Where two edits\n\
+        change the same thing, the one with the higher stamp wins everywhere; `radio revert` \
+        brings the other back.\n\
+        \n\
+        Exit status: 0 done; 1 failed (`radio: fault N`, see `radio explain N`); 2 wrong command \
+        line.",
     words: &[
         Word::Needed {
             name: "LOG",

@@ -13,7 +13,11 @@ use std::rt::Files;
 pub(crate) const WORDS: Words = Words {
     name: "render",
     about: "Renders a log as a Broadcast Wave file, with markers as cue points",
-    after: "Example: radio render news.wav desk.log jingle.wav interview.wav --bits 16 --description 'Morning news'\n\nExit status: 0 done; 1 failed (`radio: fault N`, see `radio explain N`); 2 wrong command line.",
+    after: "Example: radio render news.wav desk.log jingle.wav interview.wav --bits 16 \
+        --description 'Morning news'\n\
+        \n\
+        Exit status: 0 done; 1 failed (`radio: fault N`, see `radio explain N`); 2 wrong command \
+        line.",
     words: &[
         Word::Needed {
             name: "OUT",

@@ -13,7 +13,15 @@ use std::rt::Files;
 pub(crate) const WORDS: Words = Words {
     name: "revert",
     about: "Prints a script that undoes operations of a log",
-    after: "Example: radio revert desk.log 5.2.00000000-0000-0000-0000-00000000000a > back.txt\n\nThe script, for `radio edit`, has one line per operation, newest first, that sets back what it changed. A comment `# ...`\nstands in for operations with nothing to undo: they wait for another, changed nothing, or were overwritten since.\n\nExit status: 0 done; 1 failed (`radio: fault N`, see `radio explain N`); 2 wrong command line.",
+    after: "Example: radio revert desk.log 5.2.00000000-0000-0000-0000-00000000000a > back.txt\n\
+        \n\
+        The script, for `radio edit`, has one line per operation, newest first, that sets back \
+        what it changed. A comment `# ...`\n\
+        stands in for operations with nothing to undo: they wait for another, changed nothing, \
+        or were overwritten since.\n\
+        \n\
+        Exit status: 0 done; 1 failed (`radio: fault N`, see `radio explain N`); 2 wrong command \
+        line.",
     words: &[
         Word::Needed {
             name: "LOG",

@@ -21,7 +21,10 @@ use std::time::Duration;
 pub(crate) const WORDS: Words = Words {
     name: "serve",
     about: "Waits for one editor who connects, exchanges operations, and writes the new log",
-    after: "Example: radio serve 127.0.0.1:7000 desk.log desk.log\n\nExit status: 0 done; 1 failed (`radio: fault N`, see `radio explain N`); 2 wrong command line.",
+    after: "Example: radio serve 127.0.0.1:7000 desk.log desk.log\n\
+        \n\
+        Exit status: 0 done; 1 failed (`radio: fault N`, see `radio explain N`); 2 wrong command \
+        line.",
     words: &[
         Word::Needed {
             name: "ADDR",
@@ -40,7 +43,8 @@ pub(crate) const WORDS: Words = Words {
             name: "meetings",
             least: 0,
             greatest: u64::MAX,
-            help: "Serve N editors, one after another, or with 0 all who connect; LOG is read again for each",
+            help: "Serve N editors, one after another, or with 0 all who connect; LOG is read \
+                again for each",
         },
         NEW,
         NO_SYNC,

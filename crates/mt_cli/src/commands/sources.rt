@@ -13,7 +13,20 @@ use text_check::Listing;
 pub(crate) const WORDS: Words = Words {
     name: "sources",
     about: "Lists the recordings that a session plays, and which of the files they are",
-    after: "Example: radio sources desk.log jingle.wav interview.wav\n\nFor each recording that clips play, sorted by digest: `source DIGEST clips N audible N end N`, followed by\n`rate N channels N frames N file NAME` of the first WAVE with that digest, or by `missing`. Audible clips are those that\nare not muted, on tracks that are not muted; `end N` is the frame of the recording at which the last of them ends.\nThen `unused DIGEST file NAME` for each WAVE that no clip plays, `refused N file NAME` for each that is no wave file\n(see `radio explain N`), and at the end `missing N`.\n\nExit status: 0 done; 1 failed (`radio: fault N`, see `radio explain N`); 2 wrong command line.",
+    after: "Example: radio sources desk.log jingle.wav interview.wav\n\
+        \n\
+        For each recording that clips play, sorted by digest: `source DIGEST clips N audible N \
+        end N`, followed by\n\
+        `rate N channels N frames N file NAME` of the first WAVE with that digest, or by \
+        `missing`. Audible clips are those that\n\
+        are not muted, on tracks that are not muted; `end N` is the frame of the recording at \
+        which the last of them ends.\n\
+        Then `unused DIGEST file NAME` for each WAVE that no clip plays, `refused N file NAME` \
+        for each that is no wave file\n\
+        (see `radio explain N`), and at the end `missing N`.\n\
+        \n\
+        Exit status: 0 done; 1 failed (`radio: fault N`, see `radio explain N`); 2 wrong command \
+        line.",
     words: &[
         Word::Needed {
             name: "LOG",
@@ -31,7 +44,8 @@ pub(crate) const WORDS: Words = Words {
         Word::Choice {
             name: "files",
             others: &["missing"],
-            help: "Print only the names of the files that are played, one per line, one for each recording",
+            help: "Print only the names of the files that are played, one per line, one for each \
+                recording",
         },
         Word::Choice {
             name: "json",

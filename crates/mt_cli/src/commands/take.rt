@@ -11,7 +11,10 @@ use std::rt::Files;
 pub(crate) const WORDS: Words = Words {
     name: "take",
     about: "Adds the operations that another editor sent, and writes the new log",
-    after: "Example: radio take home.log for-home.ops home.log\n\nExit status: 0 done; 1 failed (`radio: fault N`, see `radio explain N`); 2 wrong command line.",
+    after: "Example: radio take home.log for-home.ops home.log\n\
+        \n\
+        Exit status: 0 done; 1 failed (`radio: fault N`, see `radio explain N`); 2 wrong command \
+        line.",
     words: &[
         Word::Needed {
             name: "LOG",

@@ -17,7 +17,14 @@ use text_timeline::SpanUnits;
 pub(crate) const WORDS: Words = Words {
     name: "timeline",
     about: "Draws the session of one or more logs as text, or as a picture",
-    after: "Example: radio timeline --width 100 desk.log home.log\n\nMarkers: ^ one begins, * several begin, ~ one continues. Clips: [ begins, = plays, / fades in, \\ fades out, - muted.\n`radio timeline --svg desk.log > desk.svg` makes a picture for a browser.\n\nExit status: 0 done; 1 failed (`radio: fault N`, see `radio explain N`); 2 wrong command line.",
+    after: "Example: radio timeline --width 100 desk.log home.log\n\
+        \n\
+        Markers: ^ one begins, * several begin, ~ one continues. Clips: [ begins, = plays, / \
+        fades in, \\ fades out, - muted.\n\
+        `radio timeline --svg desk.log > desk.svg` makes a picture for a browser.\n\
+        \n\
+        Exit status: 0 done; 1 failed (`radio: fault N`, see `radio explain N`); 2 wrong command \
+        line.",
     words: &[
         Word::Any {
             name: "LOG",

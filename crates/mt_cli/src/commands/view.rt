@@ -13,7 +13,10 @@ use std::slice;
 pub(crate) const WORDS: Words = Words {
     name: "view",
     about: "Prints the session: tracks, clips and markers of one or more logs",
-    after: "Example: radio view desk.log home.log\n\nExit status: 0 done; 1 failed (`radio: fault N`, see `radio explain N`); 2 wrong command line.",
+    after: "Example: radio view desk.log home.log\n\
+        \n\
+        Exit status: 0 done; 1 failed (`radio: fault N`, see `radio explain N`); 2 wrong command \
+        line.",
     words: &[
         Word::Any {
             name: "LOG",
