@@ -166,7 +166,7 @@ def edl_text(session, name, rate=48000, fps="25", track=1, title=""):
 
 
 def label_title(label):
-    """The title of a marker from a label: what a title may not have is escaped, and the rest cut."""
+    """The title of a marker from a label: what a title cannot have is escaped, the rest cut."""
     title = ""
     for one in label.decode(errors="surrogateescape"):
         byte = ord(one) - 0xDC00 if "\udc80" <= one <= "\udcff" else ord(one)

@@ -117,15 +117,15 @@ script("many_digits", "0.02000000000000000000000000000001\t1\tA\n",
        "add-marker 960 A\nmarker-length $1 47040\n")
 for name, text in (
     ("one_word", "1\n"), ("spaces_for_tabs", "1 1 A\n"), ("backwards", "2\t1\tA\n"),
-    ("a_sign", "-1\t1\tA\n"), ("no_digit_behind_the_point", "1.\t1\tA\n"), ("a_comma", "1,5\t2\tA\n"),
+    ("a_sign", "-1\t1\tA\n"), ("no_digit_after_the_point", "1.\t1\tA\n"),
+    ("a_comma", "1,5\t2\tA\n"),
     ("an_exponent", "1e3\t1e4\tA\n"), ("no_start", "\t1\tA\n"), ("no_end", "1\t\tA\n"),
     ("a_tab_in_the_title", "1\t1\tA\tB\n"), ("a_title_of_256_bytes", "1\t1\t" + "x" * 256 + "\n"),
     ("too_late", "0\t89478.4854\tA\n"),
 ):
     no_script(name, 41, text.encode())
 no_script("no_utf_8", 41, b"1\t1\t\xff\n")
-no_script("a_bad_line_behind_others", 41, b"1\t1\tA\n\n2\t1\tB\n",
-          ["--why"], )
+no_script("a_bad_line_after_others", 41, b"1\t1\tA\n\n2\t1\tB\n")
 no_script("a_line_too_many", 35, b"1\t2\tA\n2\t2\tB\n", ["--line", "4294967295"])
 fault("labels_read_no_file", 45, ["labels", "--read", "t"])
 
@@ -246,7 +246,7 @@ not_pointed("too_late", 35, [labelled(b"A")], ["--at", "4294967295"])
 not_pointed("a_line_too_many", 35, [BELL, BELL], ["--line", "4294967295"])
 not_pointed("another_rate", 34, [BELL, AT_44])
 not_pointed("no_wave", 26, [BELL, b"no wave"])
-not_pointed("no_wave_behind_another_rate", 26, [AT_44, b"no wave"])
+not_pointed("no_wave_after_another_rate", 26, [AT_44, b"no wave"])
 not_pointed("a_cut_wave", 28, [BELL[:-2]])
 fault("cues_no_file", 45, ["cues", "r1", "r2"], files={"r1": BELL})
 fault("cues_a_folder", 45, ["cues", "folder"], setup="mkdir folder")

@@ -26,7 +26,8 @@ use Rattle.cli_calls.specs.declared.fault.LayFault.TheVariants as lay
 use Rattle.cli_calls.specs.declared.fault.CliFault.{CliFault}
 use Rattle.cli_calls.specs.declared.fault.CliFault.TheVariants.{Memory, Read, Log, Merge, Source}
 use Rattle.cli_calls.specs.declared.fault.CliFault.TheVariants.{Mix, Lay, Write, Part, Print, Name}
-use Rattle.cli_calls.specs.declared.fault.CliFault.TheVariants.{Digest, NoSuchItem, Head, Format as FormatFault}
+use Rattle.cli_calls.specs.declared.fault.CliFault.TheVariants.{Digest, NoSuchItem, Head}
+use Rattle.cli_calls.specs.declared.fault.CliFault.TheVariants.{Format as FormatFault}
 use Rattle.cli_calls.specs.declared.fault.CliFault.TheVariants.{Script, Message, Sync, Net}
 use Rattle.cli_calls.specs.declared.fault.CliFault.TheVariants.{Cues, Labels, EditList}
 

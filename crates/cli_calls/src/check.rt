@@ -80,7 +80,8 @@ fn check_session<A: Allocator + Clone, W: Write>(
     output: &mut Latch<W>,
 ) -> Result<(), CliFault>
     ensures { Wrote W.contents
-        (ChecksSession form format head.now session.now (operations log.now) kept.now) output.old output.new result }
+        (ChecksSession form format head.now session.now
+            (operations log.now) kept.now) output.old output.new result }
 {
     let catalogue = catalogue_of(alloc.clone()?, kept)?;
     let mix = match Mix::new(alloc.clone()?, session, &catalogue, format) {
@@ -146,7 +147,8 @@ pub fn check_log<A: Allocator + Clone, R: Read, W: Write>(
 ) -> Result<(), CliFault>
     requires some { 1 ≤ length inputs.old }
     ensures { Ran R.remaining (GaveLogAndWaves R.remaining) (LogAndWavesCause R.remaining)
-        (Checks form format head.now) W.contents (lent inputs.old output.old) (lent inputs.new output.new) result }
+        (Checks form format head.now) W.contents (lent inputs.old output.old)
+            (lent inputs.new output.new) result }
 {
     let check = Check { form, head, format };
     run(&LogThenRecordings, &check, alloc, inputs, output)

@@ -156,8 +156,9 @@ impl<A: Allocator + Clone> Command<A, Vec<WaveHeader<A>, A>> for Cues<'_> {
 /// Errors, in this order: `Read` (45) with the index of an input whose latch has failed, or
 /// `Source` (26 to 32) with the index of one that is not a wave file, from left to right; `Cues`
 /// with the index of the first recording that has another rate (34), or of which a marker would be
-/// after frame 4,294,967,295 or a line would have a number over that (35); `Write` (37) if the output's latch has failed (the output then holds a
-/// prefix of the text); `Memory` (0) if an allocation failed.
+/// after frame 4,294,967,295 or a line would have a number over that (35); `Write` (37) if the
+/// output's latch has failed (the output then holds a prefix of the text); `Memory` (0) if an
+/// allocation failed.
 pub fn cue_files<A: Allocator + Clone, R: Read, W: Write>(
     alloc: A,
     options: &CueOptions,

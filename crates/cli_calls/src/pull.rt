@@ -184,7 +184,8 @@ pub fn pull_logs<A: Allocator + Clone, R: Read, W: Write, T: Write>(
     requires named { length inputs.old ≡ 1 + length names.now }
     ensures { RanAndPrinted R.remaining (GaveAll {Z = A} R.remaining) (HasCause R.remaining 0)
         (Pulls (map (λ n. n.now) names.now)) W.contents T.contents
-        (lent inputs.old (outputs output.old printed.old)) (lent inputs.new (outputs output.new printed.new)) result }
+        (lent inputs.old (outputs output.old printed.old)) (lent inputs.new
+            (outputs output.new printed.new)) result }
 {
     run_and_print(&EachLog, &Pull { names }, alloc, inputs, output, printed)
 }

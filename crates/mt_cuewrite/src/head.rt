@@ -26,7 +26,8 @@ impl<'h> Model for Head<'h> {
     ghost Value = { HeadText };
 
     ghost view = { λ h. record { description = h.description.now; originator = h.originator.now;
-        reference = h.reference.now; date = h.date.now; time = h.time.now; time_reference = h.time_reference } };
+        reference = h.reference.now; date = h.date.now; time = h.time.now;
+            time_reference = h.time_reference } };
 
     ghost invariant = { λ h. bad_text (record { description = h.description.now; originator =
         h.originator.now; reference = h.reference.now; date = h.date.now; time = h.time.now;
@@ -97,10 +98,12 @@ impl<'h> Head<'h> {
         time_reference: u64,
     ) -> Result<Head<'h>, HeadFault>
         ensures value { IfOk result (λ h. h ≡ record { description = description.now; originator =
-            originator.now; reference = reference.now; date = date.now; time = time.now; time_reference = time_reference }) }
+            originator.now; reference = reference.now; date = date.now; time = time.now;
+                time_reference = time_reference }) }
         ensures ok { IfOk result (λ h. bad_text h ≡ None) }
         ensures err { IfErr result (IsBadHead (record { description = description.now; originator =
-            originator.now; reference = reference.now; date = date.now; time = time.now; time_reference = time_reference })) }
+            originator.now; reference = reference.now; date = date.now; time = time.now;
+                time_reference = time_reference })) }
     {
         let bad = if !is_text(256, description) {
             1

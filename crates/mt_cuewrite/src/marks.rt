@@ -69,7 +69,11 @@ pub(crate) fn label_size<A: Allocator>(marker: &MarkerView<A>) -> u32
 }
 
 // Writes the content of the label with this name.
-#[tactic(auto, using(base_io::proofs::Putting::then_puts), unfolding(crate::specs::File::label_content))]
+#[tactic(
+    auto,
+    using(base_io::proofs::Putting::then_puts),
+    unfolding(crate::specs::File::label_content)
+)]
 fn put_label_content<A: Allocator, W: Write>(
     output: &mut BufferedLatch<'_, W>,
     name: u32,

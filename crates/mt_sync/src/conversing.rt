@@ -36,8 +36,10 @@ pub fn converse<A: Allocator + Clone, R: Read, W: Write, H: OpStore<A>>(
 ) -> Result<(), SyncFault>
     requires whole { H.whole holder.old ≡ true }
     ensures converses { ConversesAs side
-        (conversant (H.held holder.old) (R.remaining reader.old.inner) (W.contents writer.old.inner))
-        (conversant (H.held holder.new) (R.remaining reader.new.inner) (W.contents writer.new.inner)) result }
+        (conversant (H.held holder.old) (R.remaining reader.old.inner)
+            (W.contents writer.old.inner))
+        (conversant (H.held holder.new) (R.remaining reader.new.inner)
+            (W.contents writer.new.inner)) result }
     ensures name { H.named holder.new ≡ H.named holder.old }
     ensures sound { OnOk result (AreSound reader.new writer.new) }
     ensures blames { IfErr result (Blames R.remaining reader.new writer.new) }
@@ -92,8 +94,10 @@ fn hold_on<A: Allocator + Clone, R: Read, W: Write, H: OpStore<A>>(
 ) -> Result<(), SyncFault>
     requires { IsOpen talk.old.turn }
     ensures converses { Converses (end_of talk.old (H.held holder.old))
-        (conversant (H.held holder.old) (R.remaining reader.old.inner) (W.contents writer.old.inner))
-        (conversant (H.held holder.new) (R.remaining reader.new.inner) (W.contents writer.new.inner)) result }
+        (conversant (H.held holder.old) (R.remaining reader.old.inner)
+            (W.contents writer.old.inner))
+        (conversant (H.held holder.new) (R.remaining reader.new.inner)
+            (W.contents writer.new.inner)) result }
     ensures name { H.named holder.new ≡ H.named holder.old }
     ensures sound { OnOk result (AreSound reader.new writer.new) }
     ensures blames { IfErr result (Blames R.remaining reader.new writer.new) }

@@ -33,7 +33,8 @@ fn append_past_end<A: Allocator>(
     frames: u64,
 ) -> Result<(), AllocError>
     ensures { OnOk result (lines.new ≡ with_lines lines.old
-        (line_where (nat_lt frames (clip.now.offset + clip.now.len)) (past_end_line clip.now.clip (clip.now.offset + clip.now.len) frames))) }
+        (line_where (nat_lt frames (clip.now.offset + clip.now.len)) (past_end_line clip.now.clip
+            (clip.now.offset + clip.now.len) frames))) }
 {
     if !goes_past(clip, frames) {
         return Ok(());

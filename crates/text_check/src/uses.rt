@@ -46,7 +46,8 @@ fn note_clip<A: Allocator + Clone>(
     requires few { (noted uses.old clip.now.source).clips + 1 < 2 ^ 64 }
     ensures here { OnOk result (noted uses.new clip.now.source
         ≡ record { clips = (noted uses.old clip.now.source).clips
-        + 1; audible = (noted uses.old clip.now.source).audible; end = max (noted uses.old clip.now.source).end (clip.now.offset + clip.now.len) }) }
+        + 1; audible = (noted uses.old clip.now.source).audible; end = max
+            (noted uses.old clip.now.source).end (clip.now.offset + clip.now.len) }) }
     ensures others { OnOk result ((d : DigestOf) → is_same clip.now.source d ≡ false
         → noted uses.new d ≡ noted uses.old d) }
 {
@@ -69,7 +70,8 @@ fn note_audible<A: Allocator + Clone>(
     requires few { (noted uses.old clip.now.source).audible + 1 < 2 ^ 64 }
     ensures here { OnOk result (noted uses.new clip.now.source
         ≡ record { clips = (noted uses.old clip.now.source).clips; audible =
-        (noted uses.old clip.now.source).audible + 1; end = (noted uses.old clip.now.source).end }) }
+        (noted uses.old clip.now.source).audible + 1; end =
+            (noted uses.old clip.now.source).end }) }
     ensures others { OnOk result ((d : DigestOf) → is_same clip.now.source d ≡ false
         → noted uses.new d ≡ noted uses.old d) }
 {

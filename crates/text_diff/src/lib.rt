@@ -32,8 +32,10 @@
 //!     let mut desk = Log::new(rt.alloc());
 //!     let _new = desk.add(Op::new(marker, Body::AddMarker { at: 480, title })?)?;
 //!     let mut home = desk.try_clone()?;
-//!     let _new = desk.add(Op::new(Stamp::new(2, Replica(11), 1)?, Body::MoveMarker { marker, at: 960 })?)?;
-//!     let _new = home.add(Op::new(Stamp::new(2, Replica(12), 1)?, Body::MoveMarker { marker, at: 720 })?)?;
+//!     let at_desk = Stamp::new(2, Replica(11), 1)?;
+//!     let _new = desk.add(Op::new(at_desk, Body::MoveMarker { marker, at: 960 })?)?;
+//!     let at_home = Stamp::new(2, Replica(12), 1)?;
+//!     let _new = home.add(Op::new(at_home, Body::MoveMarker { marker, at: 720 })?)?;
 //!     assert!(rt; diff_text(rt.alloc(), &desk, &home)?.as_bytes() == OPERATIONS);
 //!     assert!(rt; diff_with_fields_text(rt.alloc(), &desk, &home)?.as_bytes() == FIELDS);
 //!     assert!(rt; view_diff_text(rt.alloc(), &desk, &home)?.as_slice() == SESSIONS);

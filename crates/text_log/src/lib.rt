@@ -19,7 +19,8 @@
 //!     let (news, late) = (Title::new(rt.alloc(), "News")?, Title::new(rt.alloc(), "Headlines")?);
 //!     let mut log = Log::new(rt.alloc());
 //!     let _new = log.add(Op::new(item, Body::AddMarker { at: 480, title: news })?)?;
-//!     let _new = log.add(Op::new(Stamp::new(2, Replica(11), 1)?, Body::Retitle { item, title: late })?)?;
+//!     let later = Stamp::new(2, Replica(11), 1)?;
+//!     let _new = log.add(Op::new(later, Body::Retitle { item, title: late })?)?;
 //!     assert!(rt; operations_text(rt.alloc(), &log)?.as_bytes() == TEXT);
 //!     Ok(())
 //! }

@@ -32,7 +32,8 @@
 //!     assert!(rt; revert_text(rt.alloc(), &log, &[first])?.as_bytes() == FIRST);
 //!     // no operation has this stamp
 //!     let other = Stamp::new(4, Replica(10), 2)?;
-//!     assert!(rt; revert_text(rt.alloc(), &log, &[other]).err() == Some(RevertFault::NoSuchItem(other)));
+//!     let fault = revert_text(rt.alloc(), &log, &[other]).err();
+//!     assert!(rt; fault == Some(RevertFault::NoSuchItem(other)));
 //!     Ok(())
 //! }
 //! ```

@@ -11,9 +11,13 @@
 //! use test_kit::{A, add_track};
 //! use std::test::Fail;
 //!
+//! const HEAD: &[u8] =
+//!     b"<svg xmlns=\"http://www.w3.org/2000/svg\" width=\"1560\" height=\"80\"";
+//!
 //! const NEWS: &[u8] = b"\
 //! <g class=\"marker\"><title>News</title><path class=\"start\" d=\"M1399 20V72\"/>\
-//! <svg x=\"1399\" y=\"20\" width=\"160\" height=\"16\"><text x=\"4\" y=\"12\">News</text></svg></g>
+//! <svg x=\"1399\" y=\"20\" width=\"160\" height=\"16\">\
+//! <text x=\"4\" y=\"12\">News</text></svg></g>
 //! </svg>
 //! ";
 //!
@@ -24,16 +28,18 @@
 //!     let session = from_scratch(rt.alloc(), &log)?;
 //!     // at 48000 frames a second, with no recordings
 //!     let text = svg_text(rt.alloc(), 48000, &Catalogue::new(rt.alloc()), &session)?;
-//!     assert!(rt; text.as_bytes().starts_with(b"<svg xmlns=\"http://www.w3.org/2000/svg\" width=\"1560\" height=\"80\""));
+//!     assert!(rt; text.as_bytes().starts_with(HEAD));
 //!     assert!(rt; text.as_bytes().ends_with(NEWS));
 //!     Ok(())
 //! }
 //!
 //! // a wave file of 8 bits with three frames: silence, and the greatest and the least sample
 //! const LOUD: &[u8] =
-//!     b"RIFF\xff\xff\0\0WAVEfmt \x10\0\0\0\x01\0\x01\0\x80\xbb\0\0\0\0\0\0\x01\0\x08\0data\x03\0\0\0\x80\xff\0";
+//!     b"RIFF\xff\xff\0\0WAVEfmt \x10\0\0\0\x01\0\x01\0\x80\xbb\0\0\0\0\0\0\x01\0\x08\0\
+//!     data\x03\0\0\0\x80\xff\0";
 //!
-//! const PEAKS: &[u8] = b"<path class=\"peaks\" stroke=\"#246\" stroke-opacity=\".5\" d=\"M400 2v28M800 1v30\"/>\
+//! const PEAKS: &[u8] = b"\
+//! <path class=\"peaks\" stroke=\"#246\" stroke-opacity=\".5\" d=\"M400 2v28M800 1v30\"/>\
 //! <text x=\"4\" y=\"14\">e083661f</text></svg>
 //! </g>
 //! </svg>
@@ -45,9 +51,11 @@
 //!     let mut log = Log::new(rt.alloc());
 //!     let track = Stamp::new(1, A, 1)?;
 //!     let _new = log.add(add_track(rt.alloc(), track, None)?)?;
-//!     let _new = log.add(Op::new(Stamp::new(2, A, 2)?, Body::AddClip { source, track, at: 0, offset: 0, len: 3 })?)?;
+//!     let clip = Stamp::new(2, A, 2)?;
+//!     let body = Body::AddClip { source, track, at: 0, offset: 0, len: 3 };
+//!     let _new = log.add(Op::new(clip, body)?)?;
 //!     let session = from_scratch(rt.alloc(), &log)?;
-//!     // each frame is 400 units wide, and its line stands in the first of these
+//!     // each frame is 400 units wide, and its line is in the first of these
 //!     assert!(rt; svg_text(rt.alloc(), 48000, &catalogue, &session)?.as_bytes().ends_with(PEAKS));
 //!     Ok(())
 //! }

@@ -17,9 +17,11 @@
 //! fn draws_markers(rt: HostRuntime) -> Result<(), Fail> {
 //!     let mut log = Log::new(rt.alloc());
 //!     let title = Title::new(rt.alloc(), "News")?;
-//!     let _new = log.add(Op::new(Stamp::new(1, Replica(10), 1)?, Body::AddMarker { at: 300, title })?)?;
+//!     let first = Stamp::new(1, Replica(10), 1)?;
+//!     let _new = log.add(Op::new(first, Body::AddMarker { at: 300, title })?)?;
 //!     let title = Title::new(rt.alloc(), "Weather")?;
-//!     let _new = log.add(Op::new(Stamp::new(2, Replica(10), 2)?, Body::AddMarker { at: 999, title })?)?;
+//!     let second = Stamp::new(2, Replica(10), 2)?;
+//!     let _new = log.add(Op::new(second, Body::AddMarker { at: 999, title })?)?;
 //!     let session = from_scratch(rt.alloc(), &log)?;
 //!     // ten columns, at 1000 frames a second
 //!     let text = timeline_text(rt.alloc(), 10, SpanUnits::FramesAndTimes, 1000, &session)?;
