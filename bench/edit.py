@@ -1,12 +1,12 @@
 #!/usr/bin/env python3
 """Times `radio edit`: bench/edit.py [--program PATH] [--logs N,N,..] [--lines N,N,..]
 
-Makes logs of a programme by six editors (bench/view.py's mixed history of markers), and runs the
-optimised program (crates/radio/out/radio) on each with scripts of several lengths, of which half of
-the lines add markers and half retitle or move them. Prints wall time, peak memory and the growth
-with the lines and with the log, beside `radio merge` of the same log, which reads and writes it and
-does nothing else. The best of three runs counts. Times are those of the machine at hand: compare
-ratios of one run only.
+Makes logs of a programme by six editors (the mixed history of markers of bench/view.py), and runs
+the optimised program (crates/radio/out/radio) on each with scripts of several lengths, where half
+of the lines add markers and half retitle or move them. Prints wall time, peak memory and the growth
+with the lines and with the log, next to those of `radio merge` of the same log, which only reads
+and writes it. The best of three runs counts. Times depend on the machine: compare only ratios of
+one run.
 """
 import argparse
 import os
@@ -55,8 +55,7 @@ def main():
     with tempfile.TemporaryDirectory() as folder:
         before, text, after = (os.path.join(folder, name) for name in ("log", "script", "out"))
         for size in (int(word) for word in options.logs.split(",")):
-            # by a process of its own: what is told of a child's memory begins with what its parent
-            # has
+            # in a separate process: the reported memory of a child starts with that of its parent
             subprocess.run(
                 [sys.executable, os.path.abspath(__file__), "--write", str(size), before],
                 check=True,

@@ -1,10 +1,10 @@
 #!/usr/bin/env python3
 """Times the first build: bench/first_build.py [--anyway] [--keep FOLDER]
 
-Runs the build of README.md, the block with `rt run --jobs`, in a fresh clone of the commit at hand
-with nothing beside it, and writes the minutes, the cores and the clock rate into
-bench/results/first_build.txt, from which tests/docs.py fills the README's sentence. It stops where
-other work runs (a load over 0.5), unless told --anyway, which the file then says. With --keep the
+Runs the build of README.md, the block with `rt run --jobs`, in a fresh clone of the current commit
+on an idle machine, and writes the minutes, the cores and the clock rate into
+bench/results/first_build.txt, from which tests/docs.py fills the sentence in README.md. It stops if
+other work runs (a load over 0.5), except with --anyway, which the file then says. With --keep the
 clone stays in FOLDER, whose built crates (crates/*/out) can be copied into a checkout of the same
 commit.
 """
@@ -35,7 +35,7 @@ def build_of(readme):
 
 
 def clock_rate():
-    """GHz, as the system says: the model's own rate, or that of the moment."""
+    """The clock rate in GHz according to the system: the nominal rate, or the current one."""
     with open("/proc/cpuinfo") as file:
         text = file.read()
     named = re.search(r"model name.*@ ([\d.]+)GHz", text)

@@ -1,13 +1,12 @@
 #!/usr/bin/env python3
-"""Tells what the gate costs, crate by crate: bench/gate.py [--markdown] [COMMAND]...
+"""Measures what the gate costs, crate by crate: bench/gate.py [--markdown] [COMMAND]...
 
-Runs a command, `sh tests/all.sh` unless told otherwise, at the top of the repository, looks at all
-its processes several times a second, and prints the processor seconds (user and system) of each
-crate's proof, of its tests and of its wrong bodies, and of all else. What a process takes after it
-was looked at last is missing from its crate and stands under what was not seen; the whole is what
-the system tells of the command and all that it waited for. For a run from nothing take a fresh
-clone, and clear what `rt ci` keeps of what has passed. The times are those of the machine at hand,
-with nothing beside.
+Runs a command (by default `sh tests/all.sh`) at the top of the repository, looks at all its
+processes several times per second, and prints the processor seconds (user and system) of each
+crate's proof, of its tests and of its wrong bodies, and of everything else. The time that a process
+takes after the last look at it is missing from its crate, and is listed as not seen; the total is
+what the system reports for the command and all its children. For a run from nothing, take a fresh
+clone, and clear the results that `rt ci` keeps. Times depend on the machine, which must be idle.
 """
 import argparse
 import os
@@ -43,8 +42,8 @@ def processes():
 
 
 def subject(pid, found, first):
-    """The crate and the kind of work that a process and those that started it are told by; nothing
-    where it is none of the command's."""
+    """The crate and the kind of work of a process, from its own command or that of its ancestors;
+    None if it does not belong to the command."""
     crate, kind, is_ours = None, "proof", False
     while pid in found:
         words = text_of("/proc/%d/cmdline" % pid).split("\0")

@@ -1,14 +1,14 @@
 #!/usr/bin/env python3
-"""Times mt_holdback and mt_tracklist: bench/holdback.py [--sizes N,N,..] [--places N,N,..] [--keep
-FOLDER]
+"""Times mt_holdback and mt_tracklist:
+bench/holdback.py [--sizes N,N,..] [--places N,N,..] [--keep FOLDER]
 
-`radio` uses neither crate yet, so this makes a program over both in a folder of its own (a copy of
-the crates below them, with the work that `rt check` kept), which `rt run` proves and builds
-optimised; the first build takes some minutes. It offers tracks to a hold-back: none after another
-(free), each after the one before (chain), all after the first (fan), in rising, falling and mixed
-order; then a Remove of 65,535 tags whose tags come after it; and it puts places at the front of a
-track list. Prints wall time, peak memory and the growth from one size to the next, the best of
-three. Times are those of the machine at hand: compare ratios of one run only.
+Makes a program over both crates in a temporary folder (a copy of the crates below them, with the
+work that `rt check` kept), which `rt run` proves and builds optimised; the first build takes some
+minutes. It offers tracks to a hold-back: none after another (free), each after the one before
+(chain), or all after the first (fan), in rising, falling and mixed order; then a Remove of 65,535
+tags whose tags come after it. It also inserts places at the front of a track list. Prints wall
+time, peak memory and the growth from one size to the next, the best of three. Times depend on the
+machine: compare only ratios of one run.
 """
 import argparse
 import shutil

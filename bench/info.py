@@ -1,16 +1,16 @@
 #!/usr/bin/env python3
-"""Times `radio info`: bench/info.py [--program PATH] [--quick PATH] [--bytes N] [--runs N] [--cues
-N,N,..]
+"""Times `radio info`:
+bench/info.py [--program PATH] [--quick PATH] [--bytes N] [--runs N] [--cues N,N,..]
 
-Makes a wave file of that many bytes (10^9 unless told otherwise: stereo, 24 bits, 48000 frames a
-second) and runs the optimised program (crates/radio/out/radio), with --quick the build of it for
-processors with AVX2, and `sha256sum` on it in turn, the best of seven each unless told otherwise;
-prints wall time, its ratio to that of `sha256sum`, and peak memory beside the file's size, none of
-which has to be held. Then files of few samples with many cue points, as many labels and as many
-lengths, labels and lengths in falling order, each named by the cue point that comes last: prints
-the growth of the time from size to size. Times are those of the machine at hand: compare ratios of
-one run only. Peaks under 20 MiB are this script's own, since a program begins with the peak of the
-process that started it.
+Makes a wave file of that many bytes (by default 10^9: stereo, 24 bits, 48000 frames per second).
+Runs the optimised program (crates/radio/out/radio), with --quick also its build for processors with
+AVX2, and `sha256sum` on it in turn, by default seven times each. Prints the best wall time, its
+ratio to that of `sha256sum`, and peak memory next to the file's size, as the file need not be in
+memory. Then it makes files with few samples and many cue points, as many labels and as many
+lengths. Labels and lengths are in falling order, so that each belongs to the last cue point. It
+prints the growth of the time from size to size. Times depend on the machine: compare only ratios of
+one run. Peaks under 20 MiB are those of this script, as a program starts with the peak of its
+parent process.
 """
 import argparse
 import os
@@ -42,7 +42,7 @@ def labelled(path, count):
 
 
 def in_a_process(make, *words):
-    """Makes a file in a process of its own, so that the peak memory of this one stays small."""
+    """Makes a file in a separate process, so that the peak memory of this one stays small."""
     child = os.fork()
     if child == 0:
         done = 1

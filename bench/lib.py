@@ -1,4 +1,4 @@
-"""What the benchmarks share: paths, programs over a few libraries, and measured runs."""
+"""Code that the benchmarks share: paths, programs over a few libraries, and measured runs."""
 import os
 import shutil
 import subprocess
@@ -20,7 +20,7 @@ def text_of(path):
 
 def build(folder, name, source, uses):
     """Builds a program of one file over some of the repository's libraries in a folder, unless it
-    is there, and returns its path. What earlier checks kept of the libraries is used."""
+    exists, and returns its path. It uses what earlier checks of the libraries kept."""
     lines = crate_lines()
     below = [one for one in lines if any(one in crates_below(use, lines) for use in uses)]
     crate = os.path.join(folder, "crates", name)
@@ -40,14 +40,14 @@ def build(folder, name, source, uses):
     if not os.path.exists(program):
         words = ["rt", "run", "--jobs", "1"]
         done = subprocess.run(words, cwd=crate, stdout=subprocess.PIPE, stderr=subprocess.STDOUT)
-        # it may well refuse to run with no words
+        # it may fail when it runs without words
         if not os.path.exists(program):
             sys.exit(done.stdout.decode()[-4000:])
     return program
 
 
 def run(command, **given):
-    """The seconds and the peak MiB of a run, and what it printed where `stdout` is a pipe."""
+    """The seconds and the peak MiB of a run, and its output if `stdout` is a pipe."""
     begun = time.monotonic()
     child = subprocess.Popen(command, **{"stdout": subprocess.DEVNULL, **given})
     printed = child.stdout.read() if child.stdout else b""
@@ -59,7 +59,8 @@ def run(command, **given):
 
 
 def best(command, runs=3, **given):
-    """The same of the quickest of so many runs; of one that takes over 20 seconds the only one."""
+    """The result of the fastest of `runs` runs; if one takes over 20 seconds, it is the only
+    one."""
     found = None
     for _ in range(runs):
         one = run(command, **given)
@@ -70,7 +71,7 @@ def best(command, runs=3, **given):
 
 
 def instructions(command):
-    """How many instructions a run takes, by valgrind; nothing where that is not installed."""
+    """The number of instructions of a run, by valgrind; None if that is not installed."""
     if not shutil.which("valgrind"):
         return None
     with tempfile.NamedTemporaryFile() as out:

@@ -1,15 +1,15 @@
 #!/usr/bin/env python3
 """Times the log of mt_opcodec: bench/log.py [--sizes N,N,..] [--only WORD] [--keep FOLDER]
 
-Makes a program over mt_opcodec in a folder of its own (a copy of the crates below it, with the work
+Makes a program over mt_opcodec in a temporary folder (a copy of the crates below it, with the work
 that `rt check` kept), which `rt run` proves and builds optimised; the first build takes some
 minutes. It adds operations one by one: rising in one replica, in turn over 8 and over 1,000
-replicas, in mixed order over 8, and one for each replica; it writes a log in turn and reads it; it
-deals operations out to 8 or 64 logs in turn, and joins those (`join`), or writes each, reads it and
-joins what was read, as a command does (`merge`); and it joins 8 logs that share no replica. `deal`
-is the making of the logs alone. Prints wall time, peak memory and the growth from one size to the
-next, the best of --runs (3), and of what is joined also the time of the joining alone and its
-growth, the best of as many. Times are those of the machine at hand: compare ratios of one run only.
+replicas, in mixed order over 8, and one for each replica. It writes a log and reads it. It deals
+operations out to 8 or 64 logs in turn, and joins these (`join`), or writes each, reads it and joins
+the results, as a command does (`merge`). It also joins 8 logs without common replicas. `deal` only
+makes the logs. Prints wall time, peak memory and the growth from one size to the next, the best of
+--runs (3); for joins also the time of the joining alone and its growth. Times depend on the
+machine: compare only ratios of one run.
 """
 import argparse
 import shutil
@@ -173,8 +173,7 @@ fn joined(rt: &HostRuntime, logs: Vec<Log>) -> Option<u64> {
 
 
 def least(program, shape, count, runs):
-    """Seconds, peak MiB and seconds of the joining alone, if any, each the least of so many
-    runs."""
+    """Seconds, peak MiB and seconds of the joining alone, if any, each the least of `runs` runs."""
     found = None
     for _ in range(runs):
         words = [program, str(SHAPES.index(shape)), str(count)]
@@ -188,7 +187,7 @@ def least(program, shape, count, runs):
 
 
 def times_of(now, before):
-    """A time, and how many times the one before it is."""
+    """A time, and its ratio to the one before."""
     return (
         "" if now is None else "%.3f" % now,
         "" if now is None or before is None else "%.1f" % (now / before),

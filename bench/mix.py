@@ -1,17 +1,18 @@
 #!/usr/bin/env python3
-"""Times the mix by itself: bench/mix.py [--folder FOLDER] [--seconds N] [--only WORD] [--fades]
-[--instructions]
+"""Times the mix by itself:
+bench/mix.py [--folder FOLDER] [--seconds N] [--only WORD] [--fades] [--instructions]
 
 Makes a small program over mt_render in a temporary folder (or in FOLDER, where it is kept and used
-again), with copies of the crates, and compiles bench/mix.c beside it (gcc -O3, for the processor
-that Rattle compiles for). Both read the same session and recording, mix the whole programme in
-blocks of 4,096 samples, and print a number that every sample changes: the two have to be equal.
-Then both mix it many times over, in turn; a run of two turns is taken off, so that neither reading
-nor hashing counts. The best of five runs of each counts, in processor time. Times are those of the
-machine at hand: compare ratios of one run only. Building takes some minutes the first time. With
---fades every clip fades in and out over a second, and the C program mixes once more where it
-divides each sample under a fade in 128 bits. --instructions counts instead: how many instructions
-one more turn takes (valgrind's callgrind), for each frame of each sounding track.
+again), with copies of the crates, and compiles bench/mix.c as well (gcc -O3, for the processor for
+which Rattle compiles). Both read the same session and recording, mix the whole programme in blocks
+of 4,096 samples, and print a checksum of all samples, which must be equal. Then both mix it many
+times, in turn; the time of a run with two turns is subtracted, so that neither reading nor hashing
+counts. The best of five runs of each counts, in processor time. Times depend on the machine:
+compare only ratios of one run. Building takes some minutes the first time.
+
+With --fades every clip fades in and out over a second, and the C program also mixes with each
+sample under a fade divided in 128 bits. --instructions counts instead how many instructions one
+more turn takes (valgrind's callgrind), for each frame of each sounding track.
 """
 import argparse
 import hashlib
@@ -130,7 +131,7 @@ def both(folder):
 
 
 def run(command):
-    """Processor seconds, and what it prints."""
+    """Processor seconds, and the output."""
     begun = resource.getrusage(resource.RUSAGE_CHILDREN).ru_utime
     done = subprocess.run(command, capture_output=True)
     seconds = resource.getrusage(resource.RUSAGE_CHILDREN).ru_utime - begun
@@ -161,7 +162,7 @@ def on_top(clips):
 
 class Case:
     """A session in the two programs' forms: tracks of one gain are lists of clips (start, end,
-    offset, num, den), all with fades of so many frames."""
+    offset, num, den), all with fades of the same length."""
 
     def __init__(self, name, tracks, channels, bits, fade, gain=(1, 1)):
         self.name, self.tracks, self.channels, self.bits, self.fade, self.gain = (
@@ -247,7 +248,7 @@ def cases(fade):
             clips.append((start, start + length, chance.randrange(48000), num, den))
         tracks.append(clips)
     yield Case("30 tracks, 2,010 clips, 24 bits, mono", tracks, 1, 24, fade)
-    # clips that fade from their first frame to their last, all the time
+    # clips that fade from their first frame to their last
     for num, den in ((1, 1), (7, 10), (65535, 65534)):
         clips = [
             (start, start + 2 * 48000, start % 1000, num, den)
@@ -263,7 +264,7 @@ def cases(fade):
 
 
 def tell(name, form, figures):
-    """Prints a programme's row: Rattle's figure, and each other with Rattle's ratio to it."""
+    """Prints a programme's row: Rattle's figure, and each other one with its ratio to Rattle's."""
     others = "".join(" %s | %.2f |" % (form % one, figures[0] / one) for one in figures[1:])
     print("| %s | %s |%s" % (name, form % figures[0], others), flush=True)
 

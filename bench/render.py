@@ -2,19 +2,20 @@
 """Times `radio render`: bench/render.py [--program PATH] [--quick PATH] [--minutes N,N,..]
 [--sources N,N,..] [--runs N] [--fades] [--archive]
 
-Makes mono sources of 24 bits at 48,000 frames a second, each on a track of its own from the first
+Makes mono sources of 24 bits at 48,000 frames per second, each on a separate track from the first
 frame on, and renders them into 24 bits on one channel with the optimised program
-(crates/radio/out/radio). Beside it in the same run: `radio info` of the same sources, which hashes
-them one by one (reading and hashing is all that grows with a file's samples), sha256sum, the mix
-alone in plain C (bench/mix.c by gcc -O3, one recording in memory on as many tracks, nothing read,
-hashed or written), and sox, ffmpeg and ecasound mixing the same files where they are installed.
-With --quick the build of the program for processors with AVX2 stands beside it. All take turns;
-prints wall time (the best of --runs, 3), millions of frames times tracks a second, and peak memory
-beside the sources' size. radio waits until its file is on the disk, and the others do not: with
-TMPDIR=/dev/shm no disk is measured. With --fades every clip fades in and out over a second, which
-the other programs are not told. With --archive (of --minutes 1, unless told otherwise) it renders
-four sources that are given alone and that are given among 200, of which the others sound nowhere;
-both files have to be equal. Times are those of the machine at hand: compare ratios of one run only.
+(crates/radio/out/radio). The same run also times, for comparison: `radio info` of the same sources,
+which hashes them one by one (only reading and hashing grow with a file's samples); sha256sum; the
+mix alone in plain C (bench/mix.c by gcc -O3, one recording in memory on as many tracks, without
+reading, hashing or writing); and sox, ffmpeg and ecasound mixing the same files, if they are
+installed. With --quick it also times the build of the program for processors with AVX2.
+
+All take turns. Prints wall time (the best of --runs, 3), millions of frames times tracks per
+second, and peak memory next to the sources' size. radio waits until its file is on the disk, and
+the others do not: with TMPDIR=/dev/shm no disk is measured. With --fades every clip fades in and
+out over a second, except in the other programs. With --archive (by default of --minutes 1) it
+renders four sources that are given alone and that are given among 200, where the others are not
+audible; both files must be equal. Times depend on the machine: compare only ratios of one run.
 """
 import argparse
 import filecmp
@@ -31,24 +32,24 @@ from formats.logs import A, add_clip, add_track, log, set_fade
 from formats.waves import data, fmt, riff
 
 RATE, WIDTH = 48000, 3
-# the recordings of an archive, and which of them sound
+# the recordings of an archive, and those of them that are played
 ARCHIVE, SOUNDING = 200, range(0, 200, 50)
 
 
 def run_all(commands):
-    """Seconds of these commands, one after another, and the peak MiB of the greatest process."""
+    """Seconds of these commands, one after another, and the peak MiB of the largest process."""
     runs = [run(words, stderr=subprocess.DEVNULL) for words in commands]
     return sum(one[0] for one in runs), max(one[1] for one in runs)
 
 
 def best_of(commands, runs=3):
-    """The same of the best of so many runs."""
+    """The result of the best of `runs` runs."""
     return min(run_all(commands) for _ in range(runs))
 
 
 def run_in_turn(ways, runs):
-    """The same of each way, which take turns: a machine that is slow for a while is so for all of
-    them."""
+    """The results of each way. The ways take turns, so that a slow phase of the machine affects all
+    of them."""
     turns = [[run_all(commands) for _, commands in ways] for _ in range(runs)]
     return [(name,) + min(of_one) for (name, _), of_one in zip(ways, zip(*turns))]
 
@@ -58,7 +59,7 @@ def path_of(folder, number):
 
 
 def record(folder, minutes, number):
-    """Makes the recording of this number, and gives its digest."""
+    """Makes the recording with this number, and returns its digest."""
     noise = random.Random(minutes * 60 * RATE).randbytes(RATE * WIDTH)
     sound = bytes([number]) + (noise * (minutes * 60))[1:]
     recording = riff(fmt(1, RATE, 24), data(sound))
@@ -68,8 +69,8 @@ def record(folder, minutes, number):
 
 
 def programme(folder, minutes, numbers, fade):
-    """Makes the recordings of these numbers and a log of them, of clips with fades of so many
-    frames."""
+    """Makes the recordings with these numbers and a log of them, with clips that have fades of
+    `fade` frames."""
     ops = []
     for number in numbers:
         track, clip, faded = ((3 * number + one, A, 3 * number + one) for one in (1, 2, 3))
@@ -83,8 +84,8 @@ def programme(folder, minutes, numbers, fade):
 
 
 def make_archive(folder, minutes, fade):
-    """Makes the recordings of an archive and a log of those that sound, in a process of its own, so
-    that the peak memory of this one stays small."""
+    """Makes the recordings of an archive and a log of those that are played, in a separate process,
+    so that the peak memory of this one stays small."""
     child = os.fork()
     if child == 0:
         done = 1
@@ -100,8 +101,8 @@ def make_archive(folder, minutes, fade):
 
 
 def from_archive(program, minutes, fade):
-    """Prints what a render of the same recordings takes where they are given alone, and among all
-    of an archive."""
+    """Prints the cost of a render of the same recordings if they are given alone, and among all of
+    an archive."""
     with tempfile.TemporaryDirectory() as folder:
         make_archive(folder, minutes, fade)
         path, alone = os.path.join(folder, "log"), None
@@ -121,8 +122,8 @@ def from_archive(program, minutes, fade):
 
 
 def mix_in_c(folder, recording, tracks, frames, fade):
-    """Seconds of the plain C program for one mix of a recording on so many tracks, or none where
-    there is no gcc."""
+    """Seconds of the plain C program for one mix of a recording on `tracks` tracks, or None without
+    gcc."""
     if not shutil.which("gcc"):
         return None
     program, plan = os.path.join(folder, "mix"), os.path.join(folder, "plan")

@@ -2,33 +2,33 @@
 """Times how editors swap operations: bench/sync.py [--program PATH] [--sizes N,N,..] [--replicas N]
 [--stream MIB] [--frames N,N,..] [--limit SECONDS] [--messages N,N,..] [--keep FOLDER]
 
-Makes logs of each size with the mixed history of bench/view.py, and for each a second log that
-lacks none, 100, a tenth, half or all of the operations, the latest ones, as that of an editor who
+Makes logs of each size with the mixed history of bench/view.py, and for each log a second one that
+lacks none, 100, a tenth, half or all of the operations, the latest ones, like that of an editor who
 was away. Runs the optimised program (crates/radio/out/radio): `have` of the second log, `lack` of
-the first one for it, `take` of what that gives into the second one, a conversation over loopback
+the first one for it, `take` of the result into the second one, a conversation over loopback
 (`serve` with the first log, `meet` with the second one, from the start of `meet` to the end of
-both), and `merge` of both logs beside them. All of these give the same log, which is compared.
-Prints wall time, peak memory (of a conversation the greater one of both ends), and the growth of
-the time from size to size. Then:
+both), and for comparison `merge` of both logs. All of these must give the same log. Prints wall
+time, peak memory (for a conversation that of the larger end), and the growth of the time from size
+to size. Then:
 
-  replicas  a log of one operation of each of --replicas (100,000) replicas: its Have, what it lacks
-            for that Have, and for an empty one
-  frames    `take` of --frames N,N,.. (1000,10000) messages of one operation each, which stand in
-            front of the 100,000 of a log of the same replica, in rising order and in falling order,
-            and all of them in one message beside that
-  stream    `serve` with an empty log, told --stream (128) MiB of messages of operations that it has
-            by then, in pieces of 512 bytes
+  replicas  a log of one operation of each of --replicas (100,000) replicas: its Have, and the
+            operations that it lacks for that Have and for an empty one
+  frames    `take` of --frames N,N,.. (1000,10000) messages of one operation each, which come before
+            the 100,000 operations of a log of the same replica, in rising order and in falling
+            order; for comparison, all of them in one message
+  stream    `serve` with an empty log, which receives --stream (128) MiB of messages of operations
+            that it has by then, in pieces of 512 bytes
 
-With --messages it makes a program over mt_sync in a folder of its own, as bench/take.py does (the
-first build takes some minutes; --keep says in which folder, to take it up again), and times one
-message of 100 markers that joins an editor of a log of each of these sizes, in processor time
-between two gates: markers that follow those of their replica in the log, which are taken one by
-one, and markers that stand before one of their replica, which join as a whole. `--sizes ""
---replicas 0 --stream 0 --frames ""` leaves the others out, which need the program.
+With --messages it makes a program over mt_sync in a temporary folder, as bench/take.py does (the
+first build takes some minutes; --keep names the folder, to use it again). It times one message of
+100 markers that joins an editor of a log of each of these sizes, in processor time between two
+gates: markers that follow those of their replica in the log, which are applied one by one, and
+markers that come before one of their replica, which join as a whole. `--sizes "" --replicas 0
+--stream 0 --frames ""` leaves out the others, which need the program.
 
-The best of three runs counts, or the first where that took over 10 seconds; a run over --limit
-(600) seconds is stopped. Times are those of the machine at hand: compare ratios of one run only.
-Peaks under 20 MiB are this script's own.
+The best of three runs counts, or the first if it took over 10 seconds; a run over --limit (600)
+seconds is stopped. Times depend on the machine: compare only ratios of one run. Peaks under 20 MiB
+are those of this script.
 """
 import argparse
 import filecmp
@@ -105,7 +105,7 @@ SHARES = [
 
 
 class Run:
-    """A child that is timed from its start on, and stopped at the limit."""
+    """A child that is timed from its start, and stopped at the limit."""
 
     def __init__(self, command, limit):
         self.command, self.limit = command, limit
@@ -115,7 +115,7 @@ class Run:
         self.alarm.start()
 
     def end(self):
-        """When it ended, and its peak MiB."""
+        """The time of its end, and its peak MiB."""
         _, status, usage = os.wait4(self.child.pid, 0)
         over = time.monotonic()
         self.alarm.cancel()
@@ -278,7 +278,7 @@ def pieces(parts):
 
 
 def told_in_pieces(port, parts):
-    """Tells them, and reads what comes meanwhile."""
+    """Sends the parts, and reads the replies meanwhile."""
     with socket.create_connection(("127.0.0.1", port)) as other:
         other.setsockopt(socket.IPPROTO_TCP, socket.TCP_NODELAY, 1)
         reader = threading.Thread(target=lambda: all(iter(lambda: other.recv(65536), b"")))
@@ -317,8 +317,8 @@ def time_stream(given, place):
 
 def hundred(first):
     """100 markers of one replica, with the numbers from this one on, whose clocks no operation of
-    the logs has. They stand behind all other markers, so that what is measured is no moving of the
-    session's list of these."""
+    the logs has. They come after all other markers, so that no time goes into moving the session's
+    list of markers."""
     return [
         add_marker((1000000001 + number, 1, number), 4294967295, "m" * 8)
         for number in range(first, first + 100)

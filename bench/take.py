@@ -1,46 +1,44 @@
 #!/usr/bin/env python3
-"""Times an editor's take and edit by themselves: bench/take.py [--logs N,N,..] [--shapes
-NAME,NAME,..] [--programme] [--runs N] [--histories N] [--keep FOLDER]
+"""Times an editor's take and edit by themselves: bench/take.py [--logs N,N,..]
+[--shapes NAME,NAME,..] [--programme] [--runs N] [--histories N] [--keep FOLDER]
 
-Makes a program over mt_replica in a folder of its own (a copy of the crates below it, with the work
+Makes a program over mt_replica in a temporary folder (a copy of the crates below it, with the work
 that `rt check` kept), which `rt run` proves and builds optimised; the first build takes some
-minutes. It reads a log, makes an editor of it, and takes the operations of a second log one by one,
-by rising dot, or makes edits. Before the first turn and after the last it stops at a gate, a pipe
-of a name, where Linux says how much processor time it has used, to the nanosecond
-(/proc/PID/schedstat): so what is told is the time of the turns alone, not a small difference of two
-large times. The best of three runs (--runs) counts, in processor time; growths (blocks of memory
-that are asked for) and joins are counted, and are the same on each machine. The growths of a take
-hold those of the copy that is taken, and those of an edit that of the title that it is given. Times
-are those of the machine at hand: compare ratios of one run only.
+minutes. It reads a log, builds an editor from it, and applies the operations of a second log one by
+one, in the order of their dots, or makes edits. Before the first turn and after the last one it
+stops at a gate, a named pipe, where Linux reports its processor time in nanoseconds
+(/proc/PID/schedstat). So the result is the time of the turns alone, not a small difference of two
+large times. The best of three runs (--runs) counts, in processor time. Allocations and joins are
+counted as well, and are the same on each machine. The allocations of a take include those of the
+copy that is applied, and those of an edit include that of its title. Times depend on the machine:
+compare only ratios of one run.
 
-The first table is of logs of bench/view.py's mixed history: making the editor, beside making the
-session from nothing (what reading takes is taken off both); and for one take: a marker at a place
-drawn at random, a marker in front of all others, and a new title of one marker; and for one edit: a
-marker made at a place drawn at random, and a title made. `anew` is the same turn after which the
-session is made from nothing of the log, as an editor did that kept none. The second table is of
-shapes:
+The first table is for logs of the mixed history of bench/view.py: building the editor, and for
+comparison rebuilding the session (both without the time for reading). For one take: a marker at a
+random position, a marker before all others, and a new title of one marker. For one edit: a marker
+added at a random position, and a new title. `anew` is the same turn, after which the session is
+rebuilt from the log, as an editor that keeps no session would do. The second table is for shapes:
 
-  ordered      100,000 operations of the mixed history taken one by one by rising stamp, by an
-               editor of the empty log
-  shuffled     the same in random order
-  chain        10,000 tracks, each after the place of the one before, taken from the last to the
-               first, which releases all: the last take alone
+  ordered      100,000 operations of the mixed history applied one by one in the order of stamps, by
+               an editor of the empty log
+  shuffled     the same operations in random order
+  chain        10,000 tracks, each placed after the one before, applied from the last to the first,
+               which releases all: the last take alone
   returns      a track's Remove, a Restore of it, and so on, where the track has 2,000 clips: one
                take of either
   gains        a new gain of a clip of a programme (30 tracks, 2,000 clips, 100,000 edits)
-  added        a clip added there
+  added        a clip added to that programme
   crowd        a new gain of a clip of a track with 100,000 clips
-  crowded      a clip added there
-  moved        a clip of it moved to another place on it
+  crowded      a clip added to that track
+  moved        a clip of that track moved to another position on it
 
-With --programme a third table tells of bench/view.py's `programme10` (300 tracks, 20,000 clips,
-1,000,000 edits: 1,020,300 operations in 84 MB, which take some 20 seconds to write): making the
-session from nothing and making the editor, in turn, what reading takes taken off both, and how many
-times the one the other is.
+With --programme a third table is for `programme10` of bench/view.py (300 tracks, 20,000 clips,
+1,000,000 edits: 1,020,300 operations in 84 MB, which take some 20 seconds to write): rebuilding the
+session and building the editor, in turn, both without the time for reading, and the ratio.
 
-`--logs ""` and `--shapes none` leave the first two out. With --histories it draws so many histories
-first, as tests/checks/model.py does, lets an editor of the empty log take each in an order drawn at
-random, and compares its session after each take with the one that is made from nothing of its log.
+`--logs ""` and `--shapes none` leave out the first two. With --histories it first draws this many
+histories, as tests/checks/model.py does. An editor of the empty log applies each in a random order,
+and its session after each take is compared with the one rebuilt from its log.
 """
 import argparse
 import errno
@@ -311,8 +309,8 @@ fn main(rt: HostRuntime) -> ExitCode {
 
 
 def dealt(count, order):
-    """bench/view.py's mixed history as the operations of one replica, whose numbers are this order
-    of its stamps."""
+    """The mixed history of bench/view.py as the operations of one replica, whose numbers are this
+    order of its stamps."""
 
     class Ordered(view.History):
         def stamp(self):
@@ -327,7 +325,7 @@ def dealt(count, order):
 
 
 def later(turn):
-    """The stamp of a take of this number, whose clock no operation of the logs has."""
+    """The stamp of a take with this number, whose clock no operation of the logs has."""
     return 1000000001 + turn, 1, 1 + turn
 
 
@@ -348,8 +346,8 @@ def clip_stamps(ops):
 
 
 def shapes():
-    """Of each shape its name, the log of the editor, what it takes, and how many takes count (the
-    last one alone: none)."""
+    """For each shape its name, the log of the editor, the operations that it applies, and how many
+    of these count (None: the last one alone)."""
     draw = random.Random(1)
     order = list(range(100000))
     yield "ordered", [], dealt(100000, order), 100000
@@ -404,7 +402,7 @@ def shapes():
 
 
 def compare(program, count, folder):
-    """The first of so many histories after which the sessions differ, if there is one."""
+    """The first of `count` histories after which the sessions differ, if there is one."""
     name = os.path.join(folder, "history")
     for seed in range(count):
         draw = random.Random(seed)
@@ -439,8 +437,8 @@ def spent(command):
 
 
 def least(commands, runs):
-    """Of each command the processor seconds of the best of so many runs, where all run in turn; of
-    the first where one took over ten."""
+    """For each command the processor seconds of the best of `runs` runs, where all commands take
+    turns; or those of the first run if it took over ten."""
     best = None
     for _ in range(runs):
         times = [spent(command) for command in commands]
@@ -451,14 +449,13 @@ def least(commands, runs):
 
 
 def state(child):
-    """The letter of what a program does: R where it runs, S where it sleeps."""
+    """The state of a program as a letter: R if it runs, S if it sleeps."""
     with open("/proc/%d/stat" % child.pid) as file:
         return file.read().rpartition(")")[2].split()[0]
 
 
 def at_gate(child, gate):
-    """The processor seconds that a program has used when it waits at this gate, which is opened
-    then."""
+    """The processor seconds of a program that waits at this gate, which is then opened."""
     while True:
         try:
             pipe = os.open(gate, os.O_WRONLY | os.O_NONBLOCK)
@@ -478,8 +475,8 @@ def at_gate(child, gate):
 
 
 def between(command, folder, runs):
-    """Processor seconds between the gates of a run, the best of so many; of the first where one
-    took over ten in all."""
+    """Processor seconds between the gates of a run, the best of `runs`; or those of the first run
+    if it took over ten in all."""
     gates = [os.path.join(folder, name) for name in ("before", "after")]
     best = None
     for _ in range(runs):
@@ -501,7 +498,7 @@ def make_gates(folder):
 
 
 def counts(command):
-    """Growths and joins."""
+    """Allocations and joins."""
     told = subprocess.run(command, capture_output=True, text=True, check=True).stdout.split()
     return int(told[0]), int(told[1])
 
@@ -513,15 +510,15 @@ def never_removed(ops):
 
 
 def cells(spent, growths, joins, turns):
-    """Of one turn the microseconds, the growths and the joins."""
+    """The microseconds, the allocations and the joins of one turn."""
     return [
         "%.2f" % (1000000 * spent / turns), "%.2f" % (growths / turns), "%.2f" % (joins / turns)
     ]
 
 
 def work_cells(program, folder, runs, doing, turns, anew=0, ops=None):
-    """Edits of the log that lies there, or takes of these operations: one turn, and where the
-    session is made anew after so many turns, one of these."""
+    """Edits of this log, or takes of these operations: one turn; and if the session is rebuilt
+    after `anew` turns, one of these."""
 
     def words(how, number):
         more = written(folder, "more", ops[:number]) if ops else str(number)
@@ -535,7 +532,7 @@ def work_cells(program, folder, runs, doing, turns, anew=0, ops=None):
 
 
 def log_row(program, folder, runs, size):
-    """One log: its editor and its session made, takes and edits."""
+    """One log: building its editor and its session, takes and edits."""
     ops_there = view.operations(size)
     there = written(folder, "log", ops_there)
     item = never_removed(ops_there)
@@ -554,7 +551,7 @@ def log_row(program, folder, runs, size):
 
 
 def shape_row(program, folder, runs, name, there, ops, turns):
-    """One shape: a take's time, growths and joins."""
+    """One shape: a take's time, allocations and joins."""
     there = written(folder, "log", there)
 
     def taken(some):
@@ -571,7 +568,7 @@ def shape_row(program, folder, runs, name, there, ops, turns):
 
 
 def programme_row(program, folder, runs):
-    """The realistic programme: its session and its editor made."""
+    """The realistic programme: building its session and its editor."""
     there = os.path.join(folder, "log")
     view.write_logs(view.programme10, [there])
     read, scratch, editor = least(

@@ -1,39 +1,40 @@
 #!/usr/bin/env python3
 """Times `radio view` and `radio merge`: bench/view.py [--program PATH] [--against PATH] [--runs N]
-[--sizes N,N,..] [--parts N] [--shapes NAME,NAME,..] [--limit SECONDS] [--instructions] [--commands]
+[--sizes N,N,..] [--parts N] [--shapes NAME,NAME,..] [--limit SECONDS] [--instructions]
+[--commands]
 
 Makes logs of each size by six replicas. Of a hundred operations some 40 add markers, 25 retitle and
-20 move a marker of any replica, 10 remove one by all its tags and 5 restore one, mostly one that is
-removed; and of those that name a marker so many name one that is in no log that one operation in a
-hundred is held. Runs the optimised program (crates/radio/out/radio) on the one log, and on the same
-set cut into eight logs whose dots interleave, which it also merges, and prints wall time, peak
-memory, operations a second, and the growth of the time from size to size. Then it runs the program
-on sets of a bad shape, each in one log:
+20 move a marker of any replica, 10 remove one by all its tags, and 5 restore one, mostly one that
+is removed. Some of those that name a marker name a missing one, so that one operation in a hundred
+is held. Runs the optimised program (crates/radio/out/radio) on the one log, and on the same set cut
+into eight logs whose dots interleave, which it also merges. Prints wall time, peak memory,
+operations per second, and the growth of the time from size to size. Then it runs the program on
+sets of difficult shapes, each in one log:
 
   tags         a marker with 65,535 tags, removed by one operation
-  turns        a marker removed and restored 100,000 times in turn, each Remove listing the one tag
-               that is live
+  turns        a marker removed and restored 100,000 times in turn, each Remove listing the single
+               live tag
   overlaps     1,000 Removes of one marker, each listing the same 1,000 Restores
   thousandths  1,000,000 Restores of one marker and 1,000 Removes, each listing every thousandth of
-               them from another on
+               them, from another one on
   moves        100,000 moves of one marker
-  wide         100,000 tracks, each after the place of the first
-  deep         100,000 tracks, each after the place of the one before
+  wide         100,000 tracks, each placed after the first
+  deep         100,000 tracks, each placed after the one before
   turned       100,000 tracks, each at the head
-  placings     100,000 moves of one track, each after the place of the one before
-  clips        100,000 clips of one track, at places of all orders
-  spread       100,000 clips, each on a track of its own
+  placings     100,000 moves of one track, each after the place before
+  clips        100,000 clips of one track, at positions in all orders
+  spread       100,000 clips, each on a separate track
   programme    30 tracks and 2,000 clips with 100,000 edits of them by six editors
   programme10  300 tracks and 20,000 clips with 1,000,000 edits
 
-The best of --runs (3) counts, or the first where that took over 30 seconds; a run over --limit
-(600) seconds is stopped. With --against another program, as that of an earlier state, takes turns
-with the first one, and each row has its seconds, its peak and the ratio of the times as well.
---shapes says which shapes (`none`: none), --commands runs in place of all this the commands that
-tell of a log, `diff` with a log that lacks a tenth, each beside `view` of the same. --instructions
-also counts instructions by valgrind, where it is installed. Times are those of the machine at hand:
-compare ratios of one run only. Peaks under 20 MiB are this script's own, since a program begins
-with the peak of the process that started it.
+The best of --runs (3) counts, or the first if it took over 30 seconds; a run over --limit (600)
+seconds is stopped. With --against another program, such as an earlier version, takes turns with the
+first one, and each row also has its seconds, its peak and the ratio of the times. --shapes selects
+the shapes (`none`: none). --commands runs, instead of all this, the commands that report on a log,
+and `diff` with a log that lacks a tenth, each compared with `view`. --instructions also counts
+instructions by valgrind, if it is installed. Times depend on the machine: compare only ratios of
+one run. Peaks under 20 MiB are those of this script, as a program starts with the peak of its
+parent process.
 """
 import argparse
 import os
@@ -55,7 +56,7 @@ REPLICAS = 6
 
 
 class History:
-    """Stamps of six replicas, dealt at random: clocks rise by one along it."""
+    """Stamps of six replicas, dealt at random; the clocks rise by one."""
 
     def __init__(self, seed):
         self.choice = random.Random(seed)
@@ -70,7 +71,7 @@ class History:
 
 
 def operations(count):
-    """`count` operations of a mixed history. Each editor knows all that came before."""
+    """`count` operations of a mixed history. Each editor knows all earlier ones."""
     history = History(count)
     draw = history.choice.random
     markers, removed, restored = [], [], []
@@ -90,7 +91,7 @@ def operations(count):
             tags_of[own] = [own]
             there[own] = True
             continue
-        # of the 60 that name a marker one names none that is there
+        # of the 60 that name a marker, one names a missing one
         nothing = draw() * 60 < 1
         marker = (own[0] - 1, 9999, clock) if nothing else one_of(markers)
         if kind < 65:
@@ -125,7 +126,7 @@ def operations(count):
 
 
 def marker_with_restores(history, count):
-    """A marker, the stamps of `count` Restores of it, and the operations that say so."""
+    """A marker, the stamps of `count` Restores of it, and the operations."""
     marker = history.stamp()
     made = [add_marker(marker, 480, "marker")]
     restores = [history.stamp() for _ in range(count)]
@@ -170,7 +171,8 @@ def moves():
 
 
 def tracks_after(after, seed):
-    """100,000 tracks after the first, each put after what `after` says of the places so far."""
+    """100,000 tracks after the first, each placed after the one that `after` selects from the
+    places so far."""
     history = History(seed)
     places = [history.stamp()]
     made = [add_track(places[0], None, "track")]
@@ -228,8 +230,8 @@ def spread():
 
 
 def programme(tracks=30, clips=2000, edits=100000):
-    """An hour's programme: of a hundred edits some 44 move or trim a clip, 6 let one fade, 35 set a
-    gain or a mute, 8 remove or restore a clip, 5 retitle or move a track, and 2 add, move or
+    """An hour's programme: of a hundred edits some 44 move or trim a clip, 6 give one fades, 35 set
+    a gain or a mute, 8 remove or restore a clip, 5 retitle or move a track, and 2 add, move or
     lengthen a marker."""
     history = History(12)
     draw = history.choice.random
@@ -313,7 +315,7 @@ SHAPES = {
 
 
 def run(command, limit):
-    """Seconds and peak MiB of one run, or none where it took longer than the limit."""
+    """Seconds and peak MiB of one run, or None if it took longer than the limit."""
     start = time.monotonic()
     child = subprocess.Popen(command, stdout=subprocess.DEVNULL)
     alarm = threading.Timer(limit, child.kill)
@@ -344,8 +346,8 @@ def programs(given):
 
 
 def beside(told):
-    """The further columns of a row: the other program's seconds and peak, and what the first one
-    takes of its time."""
+    """The further columns of a row: the other program's seconds and peak, and the ratio of the
+    first one's time to its time."""
     if len(told) < 2:
         return ""
     if None in told:
@@ -358,8 +360,8 @@ def columns(given):
 
 
 def write_logs(make, paths):
-    """Writes what `make` makes, dealt out in turn, into these logs. In a process of its own: a
-    program that is run from here begins with the peak memory of this process."""
+    """Writes the result of `make`, dealt out in turn, into these logs. In a separate process: a
+    program that is run from here starts with the peak memory of this process."""
     child = os.fork()
     if child == 0:
         try:
@@ -430,7 +432,7 @@ def time_sizes(given, place):
                 )
 
 
-# what tells of a log: `diff` of one that lacks a tenth
+# the commands that report on a log: `diff` with one that lacks a tenth
 TELLING = (
     "view", "view --time", "view --json", "log", "log --time", "log --json", "timeline",
     "timeline --svg", "find", "diff", "diff --fields", "diff --json",

@@ -1,20 +1,20 @@
 #!/usr/bin/env python3
 """Times worlds of editors: bench/world.py [--events N,N,..] [--runs N] [--program PROGRAM]
 
-Runs crates/test_world/out/test_world (make it by `rt run` in its folder) over lists of events, from
-a few to many, and tells the processor time of a run, the best of three (--runs), and how many times
-the time of a list of half as many events it is: n log n is a little over 2. Reading the list and
-printing the world are in it, and grow as the list. Times are those of the machine at hand: compare
-ratios of one run only. The lists:
+Runs crates/test_world/out/test_world (made by `rt run` in its folder) over lists of events, from a
+few to many. Prints the processor time of a run, the best of three (--runs), and its ratio to that
+of a list with half as many events: for n log n it is a little over 2. Reading the list and printing
+the world are included, and grow like the list. Times depend on the machine: compare only ratios of
+one run. The lists:
 
-  works     one editor makes markers, and saves after each
-  swaps     two editors make markers and save after each, and each takes at once what the other has
+  works     one editor adds markers, and saves after each
+  swaps     two editors add markers and save after each, and each at once takes what the other has
             sent
-  repeats   one editor makes markers and saves after each, and another takes each three times and
-            saves once it has them all
-  hundreds  one editor makes markers and saves once; another takes them by the hundred, each hundred
+  repeats   one editor adds markers and saves after each; another takes each three times, and saves
+            once it has them all
+  hundreds  one editor adds markers and saves once; another takes them in hundreds, each hundred
             from the last to the first, and saves after each hundred
-  retries   one editor makes a marker and saves, and then saves again and again, which sends nothing
+  retries   one editor adds a marker and saves, and then saves again and again, which sends nothing
 """
 import argparse
 import os
@@ -31,7 +31,7 @@ EDITORS = ",".join("editor %s" % uuid.UUID(int=name) for name in (10, 11))
 
 
 def edit(editor, number):
-    """A marker behind all others, so that the session moves none for it: the stamp does not
+    """A marker after all others, so that the session moves none for it; the stamp does not
     count."""
     return "edit %d %s" % (editor, add_marker((1, 1, 1), number, "made")[1].hex())
 

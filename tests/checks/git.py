@@ -159,7 +159,7 @@ def shows_lines(first):
 
 
 def conflict_of(clone, theirs, what):
-    """Pulls, which has to end in a conflict that keeps both logs and the one at hand."""
+    """Pulls, which must end in a conflict that keeps both logs and the working copy."""
     ours = clone.read()
     status, output, errors = clone.run("git", "pull", "-q", "--no-rebase", "--no-edit")
     want(status != 0, "%s: git pull tells no conflict" % what)

@@ -33,12 +33,12 @@ def text_of(path):
 def files():
     """The tracked files whose lines are checked."""
     listed = subprocess.run(["git", "ls-files", "-z"], cwd=TOP, check=True, stdout=subprocess.PIPE)
-    for path in listed.stdout.decode().split("\0"):
-        if path.startswith(DATA) or os.path.islink(os.path.join(TOP, path)):
+    for path in sorted(set(listed.stdout.decode().split("\0"))):
+        whole = os.path.join(TOP, path)
+        if path.startswith(DATA) or os.path.islink(whole) or not os.path.exists(whole):
             continue
         if path.endswith(ENDINGS) or CONTRACT.fullmatch(path):
-            if os.path.exists(os.path.join(TOP, path)):
-                yield path
+            yield path
 
 
 def markdown(text):

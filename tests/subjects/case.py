@@ -1,6 +1,6 @@
-"""How a case is made, and what several subjects share. A case has the words after the program's
-name, the files that lie where it runs, its input, and the output, the errors and the status that
-are wanted."""
+"""How a case is made, and code that several subjects share. A case has the words after the
+program's name, the files in its folder, its input, and the expected output, errors and status.
+"""
 from formats.case_text import Case, os_bytes
 from formats.log_text import log_text
 from formats.logs import A, B, C, add_marker, head, log, marker_line, retitle, seal
@@ -16,8 +16,8 @@ COMMANDS = (
 NEWS = add_marker((1, A, 1), 480, "News")
 LATE = retitle((2, B, 1), (1, A, 1), "Late")
 ONE = log([NEWS])
-# two markers by name, what NEWS shows where nothing changes it, and a second marker with what it
-# shows
+# the stamps of two markers, the line of NEWS if nothing changes it, and a second marker with its
+# line
 M, N = (1, A, 1), (2, C, 1)
 SHOWN = marker_line(M, 480, "News")
 TALK = add_marker(N, 960, "Talk")
@@ -37,9 +37,9 @@ def case(
     made=None,
     needs=None,
 ):
-    """`made`: the files that it makes or writes anew, with their bytes. `needs`: `permissions`,
-    where files that may not be read or written have to be refused. The words that call no command,
-    and the help, are cases of `radio`."""
+    """`made`: the files that it makes or rewrites, with their bytes. `needs`: `permissions`, if
+    files without permission to read or write must be rejected. Command lines without a command, and
+    the help, are cases of `radio`."""
     command = words[0] if words and words[0] in COMMANDS and "--help" not in words else "radio"
     one = Case(command, name.removeprefix(command + "_"))
     assert one.name not in MADE.setdefault(command, {}), one.title
@@ -56,7 +56,7 @@ def fault(name, number, words, **more):
 
 
 def view(name, ops, stdout):
-    """`view` alone, of a log whose text says nothing that another case of `log` does not."""
+    """`view` alone, of a log whose `log` text adds nothing to another case."""
     case(name, ["view", "log"], files={"log": log(ops)}, stdout=stdout)
 
 
@@ -66,8 +66,8 @@ def both(name, ops, session, held=()):
 
 
 def both_of(name, words, ops, session, held=(), **more):
-    """`view` and `log` of the same words, whose logs have these operations. `held` are the stamps
-    of those that wait, as many as the session says."""
+    """`view` and `log` with the same words, whose logs have these operations. `held` are the stamps
+    of those that wait; the session says their number."""
     assert set(held) <= {own for own, _ in ops} and session.endswith("held %d\n" % len(held)), name
     case("view_" + name, ["view"] + words, stdout=session, **more)
     case("log_" + name, ["log"] + words, stdout=log_text(ops, held), **more)
@@ -79,7 +79,7 @@ def both_refuse(name, number, words, **more):
 
 
 def bad_record(name, *records, version=1):
-    """A log that is sealed and counted, and one of its records is no operation of the version."""
+    """A log with a right digest and count, in which a record is no operation of the version."""
     both_refuse(
         name,
         14,

@@ -1,5 +1,6 @@
-"""Cases of `--why`: behind the line of a refusal one more, of what the program knows. Without it
-nothing changes, which all other cases say."""
+"""Cases of `--why`: after the line of an error another line, with its cause. Without `--why`
+nothing changes, which all other cases show.
+"""
 from hashlib import sha256
 
 from subjects.case import LATE, NEWS, ONE, case
@@ -398,5 +399,5 @@ caused("no_address", 46, "address nowhere", ["serve", "nowhere", "log", "out"], 
 caused(
     "nobody_there", 46, "address 127.0.0.1:1", ["meet", "127.0.0.1:1", "log", "out"], {"log": ONE}
 )
-# a name is told on one line
+# a name is printed on one line
 caused("name_of_two_lines", 45, "input a?b", ["view", "a\tb"])

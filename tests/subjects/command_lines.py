@@ -96,7 +96,7 @@ Exit status: 0 done; 1 failed (`radio: fault N`, see `radio explain N`); 2 wrong
 case("help", ["--help"], stdout=HELP)
 case("help_in_short", ["-h"], stdout=HELP)
 case("help_command", ["help"], stdout=HELP)
-# the options of each command that tells lines in forms
+# the options of each command that prints lines in several forms
 FORMS = """      --time      Print positions and lengths as H:MM:SS.mmm, at --rate frames a second
       --rate <N>  Frames a second for --time, 1 to 384000 (default: 48000)
       --json      Print each line as a JSON object

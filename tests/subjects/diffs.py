@@ -1,6 +1,7 @@
-"""Cases of `radio diff`: what one of two logs alone has, where both have another operation of one
-name, which fields both alone write, what changes in the session, and operations that another editor
-sent. The lines are written by hand."""
+"""Cases of `radio diff`: the operations that only one of two logs has, conflicts, fields that both
+sides changed, changes in the session, and operations that another editor sent. The lines are
+written by hand.
+"""
 from subjects.case import LATE, NEWS, ONE, case, fault
 from subjects.listings import ALL
 from formats.diff_text import diff_by, side
@@ -15,7 +16,7 @@ DESK, HOME = move_marker((2, B, 1), (1, A, 1), 960), move_marker((2, C, 1), (1, 
 
 
 def line(mark, own, act):
-    """A line: the stamps of the act stand in it as tuples."""
+    """A line, in which tuples are the stamps of the act."""
     return "%s %s %s\n" % (
         mark,
         stamp_text(*own),
@@ -24,8 +25,7 @@ def line(mark, own, act):
 
 
 def compared(name, flags, left, right, lines, counts, files=None):
-    """The lines are written by hand, and what a second reading takes for the text has to be the
-    same."""
+    """The lines are written by hand, and the text of the second reading must be the same."""
     text = lines + "left %d right %d both %d clashes %d\n" % counts
     files = files or {"desk": log(left), "home": log(right)}
     assert text == diff_by(flags, *[side(files[name]) for name in ("desk", "home")]), name
@@ -45,7 +45,7 @@ def diff(name, left, right, lines, counts, files=None):
 
 
 def fields(name, left, right, lines, both, counts):
-    """`both`: of each field the item, its name, and the stamps."""
+    """`both`: for each field the item, its name, and the stamps."""
     told = "".join(line(mark, own, act) for mark, own, *act in lines)
     compared(
         "fields_" + name,
@@ -73,7 +73,7 @@ def views(name, left, right, gone, came, counts, files=None):
     )
 
 
-# what one alone has
+# operations of one side
 diff("of_one_log_and_itself", [NEWS, LATE], [NEWS, LATE], [], (0, 0, 2, 0))
 diff("of_empty_logs", [], [], [], (0, 0, 0, 0))
 diff(
@@ -122,7 +122,7 @@ diff(
     (0, len(ALL), 0, 0),
 )
 diff("of_every_act_on_both", [op for op, _ in ALL], [op for op, _ in ALL], [], (0, 0, len(ALL), 0))
-# what waits is told as all else
+# held operations are reported like all others
 diff(
     "of_what_waits",
     [LATE],
@@ -131,7 +131,7 @@ diff(
     (1, 1, 0, 0),
 )
 
-# by clock, then replica, then number, while logs stand by replica
+# by clock, then replica, then number, while logs are sorted by replica
 diff(
     "by_rising_stamp",
     [add_marker((2, A, 1), 1, "a"), add_marker((4, A, 2), 2, "b"), add_marker((3, C, 1), 5, "e")],
@@ -153,7 +153,7 @@ diff(
     (10, 9, 0, 0),
 )
 
-# two operations of one name: of one stamp and other fields, of another act, of another clock
+# conflicts: with one stamp and other fields, with another act, with another clock
 diff(
     "of_a_clash",
     [NEWS],
@@ -201,7 +201,7 @@ diff(
     ],
     (1, 1, 1, 2),
 )
-# one clock and number under two replicas is no clash
+# the same clock and number under two replicas is no conflict
 diff(
     "of_one_number_of_two_replicas",
     [add_marker((1, A, 1), 1, "a")],
@@ -233,7 +233,7 @@ case(
     stdout="left 0 right 0 both 1 clashes 0\n",
 )
 
-# fields that both alone write: which a merge decides
+# fields that both sides changed, where a merge decides
 M = (1, A, 1)
 MOVES = [["-", (2, B, 1), "move-marker", M, 960], ["+", (2, C, 1), "move-marker", M, 720]]
 fields("of_one_log_and_itself", [NEWS, LATE], [NEWS, LATE], [], [], (0, 0, 2, 0))
@@ -271,7 +271,7 @@ fields(
     [],
     (1, 1, 2, 0),
 )
-# the greatest stamp of each, wherever it stands, and though both have a greater one that writes the
+# the greatest stamp of each side, wherever it is, even if both have a greater one that writes the
 # field
 fields(
     "of_several_writes",
@@ -296,7 +296,7 @@ fields(
     [(M, "position", (9, B, 1), (5, C, 2))],
     (2, 2, 2, 0),
 )
-# what clashes counts for neither
+# conflicts count for neither side
 fields(
     "of_a_clash",
     [NEWS, DESK, move_marker((3, B, 2), M, 1)],
@@ -305,7 +305,7 @@ fields(
     [(M, "position", (2, B, 1), (2, C, 1))],
     (1, 1, 1, 1),
 )
-# what waits writes as all does; who adds an item writes all its fields
+# held operations write like all others; adding an item writes all its fields
 fields(
     "of_what_waits",
     [DESK],
@@ -385,7 +385,7 @@ fields(
     (12, 12, 3, 0),
 )
 
-# what changes in the session
+# changes in the session
 views("of_one_log_and_itself", [NEWS, LATE], [NEWS, LATE], [], [], (0, 0, 2, 0))
 views("of_empty_logs", [], [], [], [], (0, 0, 0, 0))
 views("of_a_log_and_the_empty_one", [NEWS], [], [marker_line(M, 480, "News")], [], (1, 0, 0, 0))
@@ -405,7 +405,7 @@ views(
     [marker_line(M, 480, "Late")],
     (0, 1, 1, 0),
 )
-# operations that change no line: of a title that is the same, and of a track that was moved
+# operations that change no line: a title that is the same, and a track that was moved
 views(
     "of_nothing_that_is_seen", [NEWS], [NEWS, retitle((2, B, 1), M, "News")], [], [], (0, 1, 1, 0)
 )
@@ -418,9 +418,9 @@ views(
     [],
     (0, 1, 2, 0),
 )
-# what waits changes the number held alone
+# held operations only change their number
 views("of_what_waits", [], [LATE], ["held 0\n"], ["held 1\n"], (0, 1, 0, 0))
-# a clip, in the order of the session, and a track that goes with its clips
+# a clip, in the order of the session, and a track that is removed with its clips
 views(
     "of_a_clip",
     CLIPS,
@@ -495,7 +495,7 @@ diff(
     (0, 0, 0, 1),
     {"desk": ONE, "home": ops([add_marker(M, 481, "News")]) + BYE},
 )
-# what was sent is a session of its own, in which most of it may wait
+# the sent operations form a separate session, in which most of them may wait
 views(
     "with_what_was_sent",
     None,
@@ -506,7 +506,7 @@ views(
     {"desk": ONE, "home": ops([HOME]) + BYE},
 )
 
-# the left log first
+# the left log is checked first
 CUT = ONE[:-1]
 
 

@@ -1,4 +1,4 @@
-"""Cases of editing: what a script makes, which log is there afterwards, and what is refused."""
+"""Cases of editing: the operations of a script, the log after it, and errors."""
 from subjects.case import LATE, NEWS, ONE, case, fault
 from subjects.command_lines import STATUS
 from formats.logs import (
@@ -13,8 +13,8 @@ FULL = 1 << 62
 
 
 def edited(name, before, script, after, made, by=A, **more):
-    """`edit` of the log of these operations by this script into `out`; `made` operations come, and
-    `after` are in the new log."""
+    """`edit` of the log of these operations by this script into `out`, with `made` new operations;
+    `after` are those of the new log."""
     case(
         name,
         ["edit", UUID[by], "log", "script", "out"],
@@ -26,7 +26,7 @@ def edited(name, before, script, after, made, by=A, **more):
 
 
 def not_edited(name, number, before, script, by=A, **more):
-    """No file comes, goes or changes."""
+    """No file is made, removed or changed."""
     fault(
         name,
         number,
@@ -40,7 +40,7 @@ def as_bytes(script):
     return script if isinstance(script, bytes) else script.encode()
 
 
-# what scripts make
+# the results of scripts
 VOICE = add_track((1, A, 1), None, "Voice")
 CLIP = add_clip((2, A, 2), ABC, (1, A, 1), 0, 10, 20)
 HALF = set_gain((3, A, 3), (2, A, 2), 1, 2)
@@ -134,7 +134,7 @@ edited(
 not_edited("edit_fades_a_marker", 42, ITEMS, "fade %s 1 1\n" % TEXT[M])
 not_edited("edit_fades_a_track", 42, ITEMS, "fade %s 1 1\n" % TEXT[P])
 not_edited("edit_gives_a_clip_a_marker_length", 42, ITEMS, "marker-length %s 1\n" % TEXT[S])
-# a moved track's current place is named, not the place that it was added at
+# a moved track's current place is named, not the one at which it was added
 edited(
     "edit_after_a_moved_track",
     ITEMS[:2] + [move_track((3, A, 3), P, Q)],
@@ -153,7 +153,7 @@ TAGGED = [
 edited(
     "edit_removes_all_live_tags", TAGGED, "remove %s\n" % stamp_text(1, A, 1),
     TAGGED + [remove((5, B, 2), (1, A, 1), [(2, B, 1), (4, C, 1)])], 1, by=B)
-# held operations count for the clock, not for what is there
+# held operations count for the clock, not for the session
 HELD = retitle((9, B, 1), (8, C, 1), "Held")
 edited(
     "edit_passes_the_clock_of_held_operations",
@@ -177,7 +177,7 @@ edited(
     by=B,
 )
 
-# a script with a line at fault makes nothing
+# a script with a wrong line changes nothing
 M1 = stamp_text(1, A, 1)
 not_edited("edit_of_a_removed_marker", 42, [NEWS], "remove %s\n\nretitle %s x\n" % (M1, M1))
 not_edited(
@@ -275,7 +275,7 @@ fault(
     files=dict(NEW, **{"out.part": b""}),
 )
 fault("edit_into_no_folder", 37, ["edit", UUID[A], "log", "script", "no/out"], files=NEW)
-# what it made is told before OUT is given its name, so that a closed output makes no OUT
+# the count is printed before OUT gets its name, so a closed output leaves no OUT
 fault(
     "edit_onto_a_folder",
     37,

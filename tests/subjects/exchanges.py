@@ -1,5 +1,6 @@
-"""Cases of exchange by files, and of addresses: what `have`, `lack` and `take` write, and what is
-refused."""
+"""Cases of exchange by files, and of addresses: the output of `have`, `lack` and `take`, and
+errors.
+"""
 import re
 import struct
 
@@ -46,7 +47,7 @@ def not_taken(name, number, sent, some=FOUND):
     fault(name, number, ["take", "log", "ops", "out"], files={"log": log(some), "ops": sent})
 
 
-# what a log has
+# the Have of a log
 has("have_of_no_operation", [], bytes.fromhex("000000050100000000"))
 has("have_of_one_operation", [NEWS], have([(A, 1, [])]))
 has("have_of_a_run_and_more", FOUND, have([(A, 2, [4])]))
@@ -65,7 +66,7 @@ case(
     made={"out": have([(A, 1, [])])},
 )
 
-# what another lacks
+# the operations that another log lacks
 lacks("lack_of_everything", FIVE, have([]), ops(FIVE) + BYE)
 lacks("lack_of_nothing", FIVE, summary(FIVE), BYE)
 lacks("lack_of_some", FIVE, summary(FOUND), ops(LACKED) + BYE)
@@ -100,7 +101,7 @@ fault(
 )
 fault("lack_by_a_missing_file", 45, ["lack", "log", "have", "out"], files={"log": ONE})
 
-# what is taken
+# operations that are applied
 taken("take_what_was_lacked", FOUND, ops(LACKED) + BYE, FIVE)
 taken("take_nothing", FOUND, BYE, FOUND)
 taken("take_what_is_there", FIVE, ops(FIVE) + BYE, FIVE)
@@ -165,7 +166,7 @@ WAITS = {
 
 
 def widened(flags, others):
-    """The lines of these flags, whose texts begin where those of the others do."""
+    """The lines of these flags, whose texts begin in the same column as those of the others."""
     at = others[0].index(WAIT)
     return [
         re.sub(r"^( *(?:-h, )?\S+) +", lambda found: found.group(1).ljust(at), line)

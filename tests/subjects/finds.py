@@ -1,5 +1,6 @@
-"""Cases of `radio find`: the stamps of the items that have a title, or of the clips that play a
-recording."""
+"""Cases of `radio find`: the stamps of the items with a title, or of the clips that play a
+recording.
+"""
 from subjects.case import ONE, case, fault
 from subjects.renders import CLIP, OTHER, TENS, THREE, TRACK, TWENTIES, named
 from formats.logs import (
@@ -78,7 +79,7 @@ finds("two_markers", ALL, "marker", TITLE, [LATER, POINT])
 finds("one_marker", ALL, "marker", "News", [(10, A, 10)])
 finds("no_held_track", [add_track((10, B, 10), (9, B, 9), "Music")], "track", "Music", [])
 
-# only what is there
+# only items that are present
 GONE = remove((12, A, 12), TRACK, [TRACK])
 finds("no_absent_track", ALL + [GONE], "track", "Voice", [THIRD])
 finds(
@@ -117,7 +118,7 @@ refused("the_one_of_two_markers", 21, ["--one", "log", "marker", TITLE])
 refused("the_one_of_three_clips", 21, ["--one", "log", "clip", VOICE])
 refused("the_one_of_no_clips", 21, ["log", "clip", named(TWENTIES).hex(), "--one"])
 
-# the digest is looked at before the log
+# the digest is checked before the log
 for name, what in [
     ("no_digest", "voice.wav"),
     ("an_empty_digest", ""),
@@ -130,7 +131,7 @@ for name, what in [
 refused("no_digest_of_no_log", 50, ["nothing", "clip", "x"])
 finds("a_title_that_is_a_digest", [add_marker(POINT, 0, VOICE)], "marker", VOICE, [POINT])
 
-# by the file of a recording, whatever its bytes are, which is read before the log
+# by the file of a recording, whatever its bytes are; it is read before the log
 def finds_by_file(name, recording, found, flags=(), **more):
     case(
         "find_" + name,

@@ -1,5 +1,6 @@
-"""Cases of the other forms of lines: as JSON objects, with times in the place of frames, and
-scripts with times and decibels. What a second reading takes for each text has to be the same."""
+"""Cases of the other forms of lines: as JSON objects, with times in place of frames, and scripts
+with times and decibels. The texts of the second reading must be the same.
+"""
 from subjects.case import LATE, NEWS, ONE, case, fault
 from subjects.command_lines import STATUS
 from subjects.edits import ABC, UUID, edited, not_edited
@@ -54,8 +55,8 @@ for name, text in NAMES.items():
 
 
 def tells(name, words, files, plain, more, **others):
-    """What `words` print of these files, `plain` where there is no flag, with each of some
-    flags."""
+    """The output of `words` with these files: `plain` without flags, and the texts in `more` with
+    the given flags."""
     command = words[0]
     case("%s_%s" % (command, name), words, files=files, stdout=plain, **others)
     for flags, text in more:
@@ -70,7 +71,7 @@ def tells(name, words, files, plain, more, **others):
 
 
 def forms(name, words, files, plain, rates=(), times="--time", objects=True, **others):
-    """The same in all forms, as a second reading tells them."""
+    """The output in all forms, by the second reading."""
     more = [([times], times_text(48000, plain))] if times else []
     more += [([times, "--rate", str(rate)], times_text(rate, plain)) for rate in rates]
     more += [(["--json"], json_text(plain))] if objects else []
@@ -97,7 +98,7 @@ case(
     files={"log": ONE},
     stdout="marker %s at 480 title News\nheld 0\n" % stamp_text(1, A, 1),
 )
-# a title that reads as words of the text stands as it is
+# a title that reads like words of the text is unchanged
 TRICKS = ["at 480", "title len 5", "held 9", "{\"at\":1}", "\\", "\u2028", "\U0001f4fb", " ", "  "]
 forms(
     "of_titles_like_words",
@@ -234,7 +235,7 @@ for other in ("missing", "files"):
         ),
     )
 
-# what a file says of itself: at its own rate
+# a file's report on itself: at its own rate
 CUES = riff(
     fmt(rate=8000, bits=16),
     chunk(
@@ -302,7 +303,7 @@ case(
 )
 fault("info_of_no_wave_json", 26, ["info", "--json", "--time", "log"], files={"log": ONE})
 
-# what sounds otherwise than one may think
+# warnings
 LONG = clip(THREE, at=48000, length=48003) + [add_marker((9, A, 9), 96003, "End")]
 tells(
     "told_in_times",
@@ -319,7 +320,7 @@ tells(
     ],
 )
 
-# refused as without them, and with nothing told
+# fails as without the flags, and prints nothing
 for command in ("view", "log"):
     fault(
         command + "_of_a_damaged_log_json",
@@ -364,7 +365,7 @@ VOICE, TAKE = stamp_text(*P), stamp_text(*Q)
 
 
 def timed(name, script, plain, after, rate=None, words=()):
-    """What a script with times and decibels makes, of the lines that they come to."""
+    """The log after a script with times and decibels, which is equal to the script `plain`."""
     assert plain_script(rate or 48000, script.encode()) == plain.encode(), name
     case(
         "edit_" + name,

@@ -1,5 +1,4 @@
-"""Cases of `radio lay`: the lines of a script that lay recordings on a track, one behind
-another."""
+"""Cases of `radio lay`: the lines of a script that lay recordings on a track, one after another."""
 from subjects.case import ONE, case, fault
 from subjects.renders import TENS, THREE, named, wave
 from formats.logs import A, stamp_text
@@ -95,7 +94,7 @@ lays(
     ["--at", str(GREATEST), "--gap", str(GREATEST)],
 )
 
-# TRACK is looked at before any file is opened
+# TRACK is checked before any file is opened
 for name, track in (
     ("a_title", "Voice"),
     ("nothing", ""),
@@ -115,7 +114,7 @@ for name, track in (
 ):
     refused("on_" + name, 4, [track, "nothing"])
 
-# the files are read from left to right, and then laid so
+# the files are read from left to right, and then laid in this order
 refused("no_file", 45, [STAMP, "r1", "r2"], [THREE])
 refused("a_folder", 45, [STAMP, "r1", "folder"], [THREE], setup="mkdir folder")
 refused("no_wave", 26, [STAMP, "r1", "r2", "r3"], [THREE, NO_WAVE, NO_FRAME])

@@ -1,6 +1,7 @@
-"""Cases of `radio log` alone: the words of each act, the order of the lines, and which operations
-wait. What it lists of the sessions of other subjects stands there, beside what `radio view`
-shows."""
+"""Cases of `radio log` alone: the words of each act, the order of the lines, and the operations
+that wait. The lists for the sessions of other subjects are there, next to the output of
+`radio view`.
+"""
 from subjects.case import M, NEWS, case
 from subjects.merges import CUES, MANY
 from formats.log_text import log_text
@@ -14,14 +15,13 @@ TRACK, CLIP, MARKER = (1, A, 1), (2, A, 2), (3, A, 3)
 
 
 def line(own, status, act):
-    """A line: the stamps of the act stand in it as tuples."""
+    """A line, in which tuples are the stamps of the act."""
     words = [stamp_text(*word) if isinstance(word, tuple) else str(word) for word in act]
     return "%s %s %s\n" % (stamp_text(*own), status, " ".join(words))
 
 
 def listing(name, ops, lines, held=()):
-    """The lines are written by hand, and what the other subjects take for the text has to be the
-    same."""
+    """The lines are written by hand, and the text that the other subjects use must be the same."""
     text = (
         "".join(line(own, "held" if own in held else "ready", act) for own, *act in lines)
         + "operations %d\n" % len(ops)
@@ -55,7 +55,7 @@ ALL = [
     (set_marker_length((19, C, 7), MARKER, 4294967295), ["marker-length", MARKER, 4294967295]),
 ]
 listing("of_every_act", [op for op, _ in ALL], [[op[0]] + act for op, act in ALL])
-# each act waits for what it names: alone it is held
+# each act waits for the items that it names: alone it is held
 for op, act in ALL:
     if op[0] not in (TRACK, MARKER):
         listing("alone_%s_%d" % (act[0], op[0][0]), [op], [[op[0]] + act], held=[op[0]])
@@ -64,7 +64,7 @@ listing(
     [add_marker(M, 480, " a  b ")],
     [[M, "add-marker", 480, " a  b "]],
 )
-# by clock, then replica, then number, while a log stands by replica
+# by clock, then replica, then number, while a log is sorted by replica
 listing(
     "by_rising_stamp",
     [
@@ -80,7 +80,7 @@ listing(
         [(3, A, 2), "add-marker", 2, "b"],
     ],
 )
-# what waits for what waits
+# operations that wait for a waiting one
 listing(
     "of_a_chain_without_its_first",
     [add_track((2, B, 1), TRACK, "q"), add_track((3, B, 2), (2, B, 1), "r"), NEWS],
@@ -92,8 +92,8 @@ listing(
     held=[(2, B, 1), (3, B, 2)],
 )
 
-# each name that an operation can have is given to an operation of each act: those wait whose role
-# it does not fit
+# each stamp that an operation can name is given to an operation of each act: those with an item of
+# the wrong kind wait
 NAMED = {}
 for op, act in ALL:
     NAMED.setdefault(act[0], op[0])

@@ -1,4 +1,4 @@
-"""Cases of several logs, and of logs that are refused."""
+"""Cases of several logs, and of logs that are rejected."""
 from subjects.case import LATE, M, NEWS, ONE, SHOWN, bad_record, both_of, both_refuse
 from formats.logs import (
     A, B, C, add_clip, add_marker, add_track, clip_line, head, log, marker_line, move_marker,
@@ -62,7 +62,7 @@ both_refuse(
     files={"a": ONE, "other": log([add_marker((2, A, 1), 480, "News")])},
 )
 
-# logs that are refused
+# logs that are rejected
 both_refuse("three_bytes", 11, [], stdin=b"RMT")
 both_refuse("no_bytes", 11, [], stdin=b"")
 both_refuse("other_magic", 11, ["log"], files={"log": seal(head(0, magic=b"RMTX"))})
@@ -184,8 +184,8 @@ both_refuse(
     files={"a": ONE, "other": other, "bad": ONE[:-1]},
 )
 
-# versions: a log has the least that has all kinds of its operations, held ones too; in an older one
-# a newer kind is none
+# versions: a log has the least version with all kinds of its operations, held ones included; an
+# older version rejects newer kinds
 V, ON_V, FADED = (
     add_track((1, A, 1), None, "V"),
     add_clip((2, A, 2), bytes(32), (1, A, 1), 0, 0, 3),
@@ -208,7 +208,8 @@ both_of(
     V_LINE + clip(fades=(2, 1)) + "held 0\n",
     files={"faded": log([V, ON_V, FADED]), "plain": log([V, ON_V])},
 )
-# of two fades of one clock the one of the greater replica is shown, whichever log comes first
+# if two fades have the same clock, the one of the greater replica is shown, whichever log comes
+# first
 TWO_FADES = [set_fade((3, A, 3), (2, A, 2), 1, 0), set_fade((3, B, 1), (2, A, 2), 5, 0)]
 for order in ("ab", "ba"):
     both_of(
@@ -237,7 +238,7 @@ both_of(
 
 
 def in_version(version, *ops):
-    """The bytes of these operations in a log of a version that they may not have."""
+    """The bytes of these operations in a log of a version that does not allow them."""
     return seal(head(len(ops), version=version) + b"".join(text for _, text in ops))
 
 
@@ -260,7 +261,8 @@ both_refuse(
     "version_too_high_and_out_of_order", 15, ["log"], files={"log": in_version(2, LATE, NEWS)}
 )
 both_refuse("version_too_high_and_damaged", 13, ["log"], files={"log": in_version(2, NEWS)[:-1]})
-# a fade in version 1 is no operation, whatever its fields are; a stamp at fault before it decides
+# a fade in version 1 is no operation, whatever its fields are; a wrong stamp before it is reported
+# first
 bad_record("version_1_with_a_fade_cut_short", V[1], ON_V[1], FADED[1][:60])
 bad_record("version_1_with_a_fade_by_clock_0", set_fade((0, A, 1), M, 1, 1)[1])
 for name, fades in (

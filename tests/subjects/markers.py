@@ -1,11 +1,10 @@
-"""Cases of markers: what `radio view` shows of them, and how `radio log` lists what was done with
-them."""
+"""Cases of markers: the output of `radio view`, and the list of `radio log`."""
 from subjects.case import LATE, M, N, NEWS, ONE, SHOWN, TALK, TALKED, both, both_of, view
 from formats.logs import (
     A, B, C, add_marker, log, marker_line, move_marker, remove, restore, retitle, set_marker_length,
 )
 
-# what is shown
+# markers in the session
 both("empty_log", [], "held 0\n")
 both("one_marker", [NEWS], marker_line((1, A, 1), 480, "News") + "held 0\n")
 both_of("one_marker_from_input", [], [NEWS], SHOWN + "held 0\n", stdin=ONE)
@@ -80,7 +79,7 @@ both(
     marker_line((1, 0, 1), 0, "start") + "held 0\n",
 )
 
-# removing and restoring: an item is present while some tag of it is listed by no ready Remove of it
+# removing and restoring: an item is present if it has a tag that no ready Remove lists
 both("removed", [NEWS, remove((2, A, 2), M, [M])], "held 0\n")
 view(
     "removed_and_restored",
@@ -197,7 +196,7 @@ both(
     "held 0\n",
 )
 
-# a Remove or Restore that waits, or names what is no item or no tag of the item
+# a Remove or Restore that waits, or that names something that is no item or no tag of the item
 both("remove_alone", [remove((2, B, 1), M, [M])], "held 1\n", held=[(2, B, 1)])
 both("restore_alone", [restore((2, B, 1), M)], "held 1\n", held=[(2, B, 1)])
 both(
@@ -379,7 +378,7 @@ both_of(
     files={"waiting": log(waiting), "talk": log([TALK])},
 )
 
-# moving: the position is that of the greatest stamp that wrote it
+# moving: the position has the greatest stamp among its writes
 both("moved", [NEWS, move_marker((2, B, 1), M, 96000)], marker_line(M, 96000, "News") + "held 0\n")
 view(
     "moved_behind_another",
@@ -518,7 +517,7 @@ both_of(
     files={"moved": log([moved]), "news": ONE},
 )
 
-# lengths: that of the greatest stamp that wrote it, where it is not 0
+# lengths: the one with the greatest stamp, if it is not 0
 span = lambda own, length: set_marker_length(own, M, length)
 both(
     "marker_with_a_length",
@@ -601,9 +600,9 @@ view(
     marker_line(M, 960, "News") + TALKED + "held 0\n",
 )
 
-# all five bodies: News is moved and has a title; Talk is removed and back; Song is gone; Jazz was
-# removed by one who did not know of its second tag; held are a Remove with a tag of another, a Move
-# of a Retitle, a Restore and a Retitle of nothing
+# all five bodies: News is moved and has a title; Talk is removed and restored; Song is removed;
+# Jazz was removed by an editor who did not know of its second tag; held are a Remove with a tag of
+# another item, a Move of a Retitle, and a Restore and a Retitle of a missing item
 five = [
     NEWS,
     add_marker((3, A, 2), 700, "Song"),

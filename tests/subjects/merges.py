@@ -1,5 +1,4 @@
-"""Cases of merging: what the new log holds, which files are there afterwards, and what is
-refused."""
+"""Cases of merging: the new log, the files after it, and errors."""
 import os
 
 from subjects.case import LATE, NEWS, ONE, case, fault
@@ -16,7 +15,7 @@ XYZ = log([NEWS, LATE, COAST])
 
 
 def merged(name, logs, out, **more):
-    """`merge` of the logs that have these names and bytes, in this order, into `out`."""
+    """`merge` of the logs with these names and bytes, in this order, into `out`."""
     case(
         name,
         ["merge", "out"] + [name for name, _ in logs],
@@ -27,11 +26,11 @@ def merged(name, logs, out, **more):
 
 
 def not_merged(name, number, words, files, **more):
-    """No file comes, goes or changes."""
+    """No file is made, removed or changed."""
     fault(name, number, ["merge"] + words, files=files, **more)
 
 
-# what is merged
+# merges that succeed
 merged("merge_no_log", [], log([]))
 merged("merge_the_empty_log", [("none", log([]))], log([]))
 merged("merge_one_log", [("x", X)], X)
@@ -45,7 +44,7 @@ merged(
     [("even", log(fourteen[0::2])), ("odd", log(fourteen[1::2]))],
     log(fourteen),
 )
-# the version of what is merged is the greatest that one of them has, in either order
+# the version of the result is the greatest one among the logs, in either order
 TRACK, CLIP = add_track((1, A, 1), None, "V"), add_clip((2, A, 2), bytes(32), (1, A, 1), 0, 0, 3)
 PLAIN, FADED = log([TRACK, CLIP]), log([TRACK, CLIP, set_fade((3, A, 3), (2, A, 2), 2, 1)])
 merged("merge_a_fade_behind_none", [("plain", PLAIN), ("faded", FADED)], FADED)
@@ -59,12 +58,12 @@ OF_B = [
 assert len(log(SPAN + OF_B)) == 45 + 329
 merged("merge_a_length_and_a_fade", [("span", log(SPAN)), ("faded", log(OF_B))], log(SPAN + OF_B))
 merged("merge_a_fade_and_a_length", [("faded", log(OF_B)), ("span", log(SPAN))], log(SPAN + OF_B))
-# more logs than are joined one after another: an operation of each, and one that all have
+# more logs than are joined one after another: one operation of each, and one that all have
 CUES = [add_marker((2, C, number), number, "Cue") for number in range(1, 13)]
 MANY = [(str(number), log([NEWS, cue])) for number, cue in enumerate(CUES, 1)]
 merged("merge_twelve_logs", MANY, log([NEWS] + CUES))
 merged("merge_twelve_logs_from_the_last", MANY[::-1], log([NEWS] + CUES))
-# the example that the README shows, which examples/make.sh made
+# the example in the README, made by examples/make.sh
 EXAMPLES = os.path.join(
     os.path.dirname(os.path.dirname(os.path.dirname(os.path.abspath(__file__)))), "examples"
 )
@@ -80,7 +79,7 @@ for name, text in EXAMPLE_LOGS:
         assert file.read() == text, name
 merged("example_merge", EXAMPLE_LOGS, log(PUT + TITLES + TRAFFIC))
 
-# what is refused
+# errors
 OTHER = add_marker((1, A, 1), 480, "Other")
 LATER = add_marker((9, A, 1), 480, "News")
 not_merged("merge_other_operation", 17, ["out", "x", "other"], {"x": X, "other": log([OTHER])})
@@ -107,7 +106,7 @@ not_merged(
 not_merged("merge_missing_file", 45, ["out", "x", "missing"], {"x": X})
 not_merged("merge_missing_before_damaged", 45, ["out", "cut", "missing"], {"cut": Y[:-1]})
 
-# OUT and OUT.part, which is made once the inputs are open and before they are read
+# OUT and OUT.part, which is made after the inputs are opened and before they are read
 case(
     "merge_into_an_input",
     ["merge", "x", "x", "z"],

@@ -1,5 +1,6 @@
-"""Cases of what may not be replaced: `--new` is refused where OUT is there, when the part would be
-made."""
+"""Cases of files that must not be replaced: `--new` fails if OUT exists when the part would be
+made.
+"""
 from subjects.case import NEWS, ONE, case, fault
 from formats.exchange import BYE, have, summary
 from formats.logs import A, log
@@ -20,7 +21,7 @@ for command, (words, other) in COMMANDS.items():
         words + ["--new"],
         files=dict(other, log=ONE, **THERE),
     )
-    # what is read is refused first
+    # errors of the inputs come first
     fault(
         command + "_new_damaged_where_there_is_one",
         13,

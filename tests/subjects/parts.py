@@ -1,6 +1,7 @@
 """Cases of the commands that make their file last (`edit`, `have`, `lack`, `take`, `serve` and
-`meet`): each input is opened, then read and checked, then an address is met at, and only then is
-OUT.part made. What is there already is kept, OUT too."""
+`meet`): each input is opened, then read and checked, then the connection is made, and only then
+OUT.part. Existing files are kept, OUT too.
+"""
 from subjects.case import ONE, fault
 from formats.exchange import BYE, have
 from formats.logs import A
@@ -8,8 +9,8 @@ from formats.logs import A
 EDITOR = "00000000-0000-0000-0000-%012x" % A
 CUT = ONE[:-1]
 LEFT = {"out.part": b"left by a crash", "out": b"what was there"}
-# the words up to LOG and behind it; a good and a bad file named `other`, with the refusal of the
-# bad one
+# the words up to LOG and after it; a good and a bad file named `other`, with the error of the bad
+# one
 COMMANDS = {
     "edit": (["edit", EDITOR], ["other"], b"add-marker 0 x\n", b"frob\n", 41),
     "have": (["have"], [], None, None, None),
@@ -22,7 +23,7 @@ COMMANDS = {
 for command, (before, behind, good, bad, number) in COMMANDS.items():
     words = before + ["log"] + behind
     other = {} if good is None else {"other": good}
-    # LOG is not there, or damaged, beside an OUT and an OUT.part: neither is looked at
+    # LOG is missing or damaged, next to an OUT and an OUT.part: neither is checked
     fault(command + "_missing_beside_a_part", 45, words + ["out"], files=dict(other, **LEFT))
     fault(
         command + "_damaged_beside_a_part", 13, words + ["out"], files=dict(other, log=CUT, **LEFT)
@@ -36,12 +37,12 @@ for command, (before, behind, good, bad, number) in COMMANDS.items():
         )
         fault(command + "_no_address_into_no_folder", 46, words + ["no/out"], files=dict(log=ONE))
         continue
-    # all is well but OUT.part
+    # everything is right except for OUT.part
     fault(command + "_beside_a_part", 37, words + ["out"], files=dict(other, log=ONE, **LEFT))
     if good is None:
         continue
-    # what comes after LOG is bad, and so is OUT.part; both inputs are bad, the one not there and
-    # the other damaged, in both orders
+    # the input after LOG is bad, and so is OUT.part; both inputs are bad, one missing and the other
+    # damaged, in both orders
     fault(
         command + "_bad_beside_a_part",
         number,

@@ -1,5 +1,6 @@
 """Cases of `radio timeline --svg`: the session as a picture. The elements are written by hand, and
-what a second reading takes for the text has to be the same."""
+the text of the second reading must be the same.
+"""
 from subjects.case import LATE, NEWS, ONE, case, fault
 from subjects.renders import CLIP, LOW_RATE, OTHER, THREE, TRACK, named, wave
 from formats.logs import (
@@ -203,7 +204,7 @@ draws("a_removed_title", [NEWS, LATE], START, markers=[marker("Late", 1397, 20, 
 
 
 def every(name, step, seconds):
-    """Times up to a clip that ends so many seconds from the front."""
+    """Times up to a clip that ends at this number of seconds."""
     times = [
         (200 + second * 1200 // seconds, "%d:%02d" % divmod(second, 60))
         for second in range(0, seconds + 1, step)
@@ -253,8 +254,8 @@ LOUD = wave([0, 16384, -32768, 8192], bits=16)
 
 
 def peaked(name, ops, files, lines, digits, width=1200, x=200, sounds="clip", others=()):
-    """A picture with these recordings, in whose first box these lines stand, each a unit, how far
-    it goes up and how far down."""
+    """A picture with these recordings, whose first box has these lines, each as a unit, its height
+    and its depth."""
     path = (
         '<path class="peaks" stroke="#246" stroke-opacity=".5" d="%s"/>'
         % "".join("M%d %dv%d" % (unit, 16 - reach, 2 * reach) for unit, reach in lines)

@@ -1,5 +1,6 @@
-"""Cases of `radio pull`: what LOG holds then, what is told of each FROM, and what is refused, as by
-`merge`."""
+"""Cases of `radio pull`: the operations of LOG after it, the report on each FROM, and errors, which
+are those of `merge`.
+"""
 from subjects.case import LATE, NEWS, ONE, case, fault
 from formats.logs import A, B, C, add_marker, log
 
@@ -8,8 +9,8 @@ BOTH = log([NEWS, LATE])
 
 
 def pulled(name, held, others, told, all_of_them, flags=()):
-    """`pull` into a log of some operations, of the logs that have these names and operations. Each
-    is told by its name, what is new and what is shared."""
+    """`pull` into a log of some operations, from the logs with these names and operations. The
+    report on each has its name, and the numbers of new and shared operations."""
     lines = "".join(
         "from %s new %d shared %d\n" % (name, new, shared)
         for (name, _), (new, shared) in zip(others, told)
@@ -35,7 +36,7 @@ pulled("of_another_programme", [NEWS], [("other", [COAST])], [(1, 0)], [NEWS, CO
 pulled("of_the_empty_log", [NEWS], [("none", [])], [(0, 0)], [NEWS])
 pulled("into_the_empty_log", [], [("home", [NEWS, LATE])], [(2, 0)], [NEWS, LATE])
 pulled("held_operations", [], [("late", [LATE])], [(1, 0)], [LATE])
-# what one FROM brings is no longer new in the next
+# operations of one FROM are no longer new in the next
 pulled(
     "of_two",
     [NEWS],
@@ -76,7 +77,7 @@ case(
     made={"log": BOTH},
 )
 
-# what is refused: each file is opened, then LOG.part is made, and then each log is read
+# errors: each file is opened, then LOG.part is made, and then each log is read
 CUT = BOTH[:-1]
 OTHER = log([add_marker((1, A, 1), 481, "News")])
 not_pulled("into_no_log", 45, ["log", "home"], {"home": BOTH})

@@ -21,7 +21,7 @@ OF_A_WORLD = (
     "call.\n"
 )
 case("explain_of_a_world", ["explain", "48"], stdout=OF_A_WORLD)
-# of a wave file's: a program that shows the cause
+# those of wave files: a program that shows the cause
 WAVES = {
     26: (
         "NotRiff: a file is not a RIFF file\n"

@@ -1,5 +1,4 @@
-"""Cases of rendering: the bytes of the file, worked out by hand, and what is refused, in its
-order."""
+"""Cases of rendering: the bytes of the file, worked out by hand, and errors, in their order."""
 import hashlib
 import struct
 
@@ -45,7 +44,7 @@ def renders(name, ops, recordings, out, words=()):
 
 
 def refused(name, number, words, files=None, **more):
-    """No file comes, goes or changes."""
+    """No file is made, removed or changed."""
     fault("render_" + name, number, ["render"] + words, files=files, **more)
 
 
@@ -224,8 +223,8 @@ renders(
     [],
     rendered([]),
 )
-# fades: the first frame of a fade in is silent, the last of a fade out is not, and one that is
-# longer than the clip ends with it
+# fades: the first frame of a fade in is silent, the last one of a fade out is not, and a fade that
+# is longer than the clip ends with it
 HUNDREDS = wave([100] * 4, bits=16)
 for name, fades, samples in (
     ("in", (2, 0), [0, 50, 100]),
@@ -241,7 +240,7 @@ for name, fades, samples in (
         rendered(samples, bits=16),
         ["--bits", "16"],
     )
-# a fade counts over the clip's own frames, also under a clip that lies over it
+# a fade counts over the clip's own frames, also under a covering clip
 renders(
     "a_fade_under_another_clip",
     clip(HUNDREDS, length=4)
@@ -314,8 +313,7 @@ case(
     made={"out": rendered([], bits=16)},
 )
 
-# refused, in this order: the head, the format, a file that is missing, the log, the recordings, the
-# mix
+# errors, in this order: the head, the format, a missing file, the log, the recordings, the mix
 READY = {"log": log(ONE_CLIP), "r": THREE}
 for name, words in (
     ("description", ["--description", "d" * 257]),
@@ -362,7 +360,7 @@ refused(
     {"log": log(ENDLESS), "r": wave([1], bits=16)},
 )
 
-# OUT and OUT.part, which is made once the inputs are open and before they are read
+# OUT and OUT.part, which is made after the inputs are opened and before they are read
 case(
     "render_over_an_old_file",
     ["render", "out", "log", "r"],
@@ -389,7 +387,7 @@ refused(
 refused("into_a_missing_folder", 37, ["folder/out", "log", "r"], READY)
 refused("onto_a_folder", 37, ["folder", "log", "r"], READY, setup="mkdir folder")
 
-# what is rendered is read again
+# rendered files are read again
 HISTORY = "history A=PCM,F=48000,W=24,M=mono\\x0d\\x0a"
 HEAD = (
     "bext 0", "description ", "originator ", "reference ", "date 2000-01-01", "time 00:00:00",

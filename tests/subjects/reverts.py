@@ -1,5 +1,6 @@
-"""Cases of `radio revert`: the lines that take operations back, in their order, and the remarks
-that stand in place of a line that would do nothing or harm. The lines are written by hand."""
+"""Cases of `radio revert`: the lines that revert operations, in their order, and the comments in
+place of lines that would do nothing or harm. The lines are written by hand.
+"""
 from subjects.case import LATE, M, NEWS, ONE, case, fault
 from formats.logs import (
     A, B, C, add_clip, add_marker, add_track, log, move_clip, move_marker, move_track, remove,
@@ -14,8 +15,8 @@ CLIPS = TRACKS + [add_clip(TAKE, bytes(32), VOICE, 5, 6, 7)]
 
 
 def reverts(name, ops, stamps, *lines):
-    """Of each line its words, in which `{}` stands for a stamp, and these stamps. What a second
-    reading takes for the text has to be the same."""
+    """For each line its words, in which `{}` is a stamp, and these stamps. The text of the second
+    reading must be the same."""
     text = "".join(
         words.format(*[stamp_text(*stamp) for stamp in named]) + "\n" for words, *named in lines
     )
@@ -28,7 +29,7 @@ def reverts(name, ops, stamps, *lines):
     )
 
 
-# what adds an item
+# operations that add an item
 reverts("of_a_marker", [NEWS], [M], ("remove {}", M))
 reverts("of_a_track_and_its_clip", CLIPS, [VOICE, TAKE], ("remove {}", TAKE), ("remove {}", VOICE))
 reverts(
@@ -43,7 +44,7 @@ reverts(
     [M],
     ("remove {}", M),
 )
-# what removes one, or gives it another tag
+# operations that remove an item, or give it another tag
 GONE, BACK = remove((2, B, 1), M, [M]), restore((3, C, 1), M)
 reverts("of_a_remove", [NEWS, GONE], [(2, B, 1)], ("restore {}", M))
 reverts(
@@ -77,7 +78,7 @@ reverts(
     "of_a_marker_and_its_remove", [NEWS, GONE], [M, (2, B, 1)], ("restore {}", M), ("remove {}", M)
 )
 
-# what writes a field, once
+# one write of a field
 reverts(
     "of_a_position", [NEWS, move_marker((2, B, 1), M, 960)], [(2, B, 1)], ("move-marker {} 480", M)
 )
@@ -141,7 +142,7 @@ reverts(
     [(5, B, 2)],
     ("move-clip {} {} 9", TAKE, MUSIC),
 )
-# a track is put after the track of its place
+# a track is moved after the track of its place
 reverts(
     "of_a_track_that_was_the_first",
     CLIPS + [move_track((4, B, 1), VOICE, MUSIC)],
@@ -166,7 +167,7 @@ reverts(
     ("move-track {} {}", MUSIC, VOICE),
 )
 
-# several writes of a field: what another one wrote since stays
+# several writes of a field: a later write of another editor stays
 FIRST, LAST = move_marker((2, B, 1), M, 960), move_marker((3, C, 1), M, 720)
 MOVES = [NEWS, FIRST, LAST]
 reverts("of_the_last_move", MOVES, [(3, C, 1)], ("move-marker {} 960", M))
@@ -211,7 +212,7 @@ reverts(
     [(2, C, 1)],
     ("move-marker {} 960", M),
 )
-# another field, and the same one of another item
+# another field, and the same field of another item
 reverts(
     "of_a_move_before_a_retitle",
     [NEWS, FIRST, retitle((3, C, 1), M, "Late")],
@@ -232,7 +233,7 @@ reverts(
     ("move-track {} {}", MUSIC, VOICE),
 )
 
-# what is absent, where the lines above it were read
+# absent items, after the lines above it were read
 CUT = remove((5, C, 1), TAKE, [TAKE])
 QUIET = set_gain((4, B, 1), TAKE, 1, 2)
 reverts(
@@ -281,7 +282,7 @@ reverts(
     ("gain {} 1/1", TAKE),
 )
 
-# what waits
+# held operations
 reverts("of_what_waits", [LATE], [(2, B, 1)], ("# {} waits: it changes nothing", (2, B, 1)))
 reverts(
     "of_what_waits_for_that",
@@ -291,7 +292,7 @@ reverts(
     ("# {} waits: it changes nothing", MUSIC),
 )
 
-# the first stamp that no operation has
+# the first stamp without an operation
 SOME = stamp_text(*M)
 
 

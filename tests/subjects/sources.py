@@ -1,10 +1,11 @@
-"""Cases of `radio sources`: which recordings a session plays, and which of the files these are."""
+"""Cases of `radio sources`: the recordings that a session plays, and which of the files these
+are."""
 from subjects.case import ONE, case, fault
 from subjects.renders import CLIP, OTHER, SECOND, TENS, THREE, TRACK, TWENTIES, clip, named, wave
 from formats.logs import A, B, add_clip, add_track, log, move_clip, remove, set_mute, trim_clip
 
 STEREO = wave([1, -1, 2, -2], rate=44100, bits=16, channels=2)
-# no file of a recording, and one whose name is told as it is
+# no file for a recording, and one whose name is printed as it is
 NO_RIFF, CUT = b"no wave", THREE[:-2]
 
 
@@ -54,7 +55,7 @@ sources(
     told(STEREO, 1, 1, 2, at_hand("music.wav", 44100, 2, 2)) + "missing 0\n",
 )
 
-# by rising digest, whatever the order of tracks, clips and files
+# by rising digest, in any order of tracks, clips and files
 TWO = clip(TENS, length=2) + [
     add_track(SECOND, None, "Music"), add_clip(OTHER, named(TWENTIES), SECOND, 1, 0, 2)
 ]
@@ -77,7 +78,7 @@ sources(
     + "missing 1\n",
 )
 
-# how many clips there are, how many are heard, and how far they go
+# the number of clips, the number of audible clips, and their end
 AGAIN = ONE_CLIP + [add_clip(OTHER, named(THREE), TRACK, 1, 1, 5)]
 sources("of_two_clips", AGAIN, HERE, told(THREE, 2, 2, 6, at_hand("voice.wav")) + "missing 0\n")
 sources(
@@ -110,7 +111,7 @@ sources(
     HERE,
     told(THREE, 1, 1, 8589934590, at_hand("voice.wav")) + "missing 0\n",
 )
-# what is held back names nothing
+# held operations name nothing
 sources(
     "of_a_held_clip",
     [add_clip(OTHER, named(THREE), TRACK, 1, 0, 3)],
@@ -124,8 +125,8 @@ sources(
     "".join(LINES) + "missing 0\n",
 )
 
-# the first file of a recording counts; files that no clip plays, and files that are none, in their
-# order
+# the first file of a recording counts; files that no clip plays, and files that are no wave files,
+# in their order
 sources(
     "of_a_copy",
     ONE_CLIP,
@@ -172,7 +173,7 @@ sources(
     words=["--", "log", "-"],
 )
 
-# the digests that are missing, or the files that are played, alone
+# only the missing digests, or only the files that are played
 ALL = BOTH + [("three", THREE), ("notes", NO_RIFF)]
 sources(
     "missing_alone",

@@ -28,7 +28,7 @@ def refused(name, number, words, files, **more):
     fault("timeline_" + name, number, ["timeline"] + words, files=files, **more)
 
 
-# nothing, and one thing
+# nothing, and one item
 draws("nothing", [], ["markers " + "." * 60, "span 0 0:00:00.000 column 1 0:00:00.000"])
 draws(
     "a_track_without_clips",
@@ -141,12 +141,12 @@ draws(
     ["--width", "19"],
 )
 
-# what lies over what: the lower one fades out all the time
+# overlapping clips: the lower one fades out all the time
 TWELVE = "span 12 0:00:00.000 column 1 0:00:00.000"
 
 
 def twelve(name, more, line):
-    """A clip of twelve frames, and one of four that was put there later."""
+    """A clip of twelve frames, and one of four that was placed later."""
     ops = [VOICE, clip(0, 12), set_fade((3, A, 3), CLIP, 0, 12), clip(4, 4, OTHER)] + more
     draws(name, ops, ["markers ............", "Voice   " + line, TWELVE], ["--width", "12"])
 
@@ -351,7 +351,7 @@ draws(
     ["--width", "1", "--rate", "384000"],
 )
 
-# inputs, and what is refused
+# inputs, and errors
 PICTURE = "markers ..^\nspan 481 0:00:00.010 column 161 0:00:00.003\n"
 case("timeline_of_standard_input", ["timeline", "--width", "3"], stdin=ONE, stdout=PICTURE)
 case(

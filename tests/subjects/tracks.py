@@ -1,5 +1,6 @@
-"""Cases of tracks and clips: what `radio view` shows of them, how `radio log` lists what was done
-with them, and records of theirs that are none."""
+"""Cases of tracks and clips: the output of `radio view`, the list of `radio log`, and records of
+tracks and clips that are invalid.
+"""
 import hashlib
 
 from subjects.case import M, NEWS, SHOWN, bad_record, both, both_of, both_refuse, view
@@ -9,8 +10,8 @@ from formats.logs import (
     set_mute, stamp, track_line, trim_clip,
 )
 
-# tracks: four places, z and a at the head and x and y after a, are shown by falling stamp, each
-# before those after it
+# tracks: four places, z and a at the head and x and y after a, are shown in falling order of
+# stamps, each before those after it
 D = hashlib.sha256(b"abc").digest()
 a, x, y, z = (
     add_track((1, A, 1), None, "a"),
@@ -73,7 +74,7 @@ view(
     + "held 0\n",
 )
 
-# tracks that move: each stands once, at its place of greatest stamp
+# tracks that move: each appears once, at its place with the greatest stamp
 p, q, r = (
     add_track((1, A, 1), None, "p"),
     add_track((2, A, 2), (1, A, 1), "q"),
@@ -120,7 +121,7 @@ both(
     held=[(3, A, 3)],
 )
 
-# an absent track is not shown, nor is what is on it; edits of it and on it are kept
+# an absent track is not shown, nor are the items on it; edits of it and on it are kept
 clip_on_p = add_clip((2, B, 1), D, (1, A, 1), 5, 6, 7)
 gone = remove((3, A, 3), (1, A, 1), [(1, A, 1)])
 view("removed_track_hides_its_clip", [p, q, clip_on_p, gone], Q + "held 0\n")
@@ -156,8 +157,8 @@ view(
     track_line((4, B, 1), "n") + Q + "held 0\n",
 )
 
-# clips: moved while removed they come back where they were moved to; two at one frame stand by the
-# stamp of their place
+# clips: if they are moved while they are removed, they return to the new position; two at one frame
+# are sorted by the stamps of their places
 T = (1, A, 1)
 clip = add_clip((2, A, 2), D, T, 1, 2, 3)
 shown = lambda place, at, **how: P + clip_line((2, A, 2), place, at, 2, 3, D, **how) + "held 0\n"
@@ -273,8 +274,8 @@ both(
     held=[(2, A, 2), (3, A, 3)],
 )
 
-# roles that do not fit: a move is a place alone, a clip is neither a track nor a place, and a tag
-# is its own item's
+# wrong kinds: a move is only a place, a clip is neither a track nor a place, and a tag belongs to
+# its own item
 moved = move_track((3, A, 3), T, None)
 PT = track_line(T, "p")
 both(
@@ -375,7 +376,7 @@ both(
     track_line((1, A, 1), "n" * 255) + "held 0\n",
 )
 
-# the largest and the smallest of every number, and titles in several scripts and none
+# the largest and the smallest of every number, titles in several scripts, and empty titles
 MOST = 2**32 - 1
 top = (2**62, C, 2**62)
 both(
@@ -422,7 +423,7 @@ for name, text in [
         track_line((1, A, 1), text) + "held 0\n",
     )
 
-# fades: of two that were set the one of the greater stamp is shown, and none where both are 0
+# fades: the later of two is shown, and none if both are 0
 fade = lambda own, fade_in, fade_out: set_fade(own, (2, A, 2), fade_in, fade_out)
 view(
     "faded_clip",
@@ -481,8 +482,8 @@ both(
     held=[(4, A, 3)],
 )
 
-# all fourteen bodies, by three replicas, with four that wait: a clip and a gain of nothing, a mute
-# of a marker, a track after a marker
+# all fourteen bodies, by three replicas, with four that wait: a clip and a gain of a missing item,
+# a mute of a marker, a track after a marker
 fourteen = [
     add_track((1, A, 1), None, "Voice"),
     add_track((2, A, 2), (1, A, 1), "Music"),
@@ -523,7 +524,7 @@ for order in ["abc", "cba", "bacab"]:
         "fourteen_bodies_in_logs_" + order, list(order), fourteen, wanted, held=held, files=parts
     )
 
-# records of tracks and clips that are none
+# invalid records of tracks and clips
 bad_record("place_flag_2", stamp(2, B, 1) + b"\x01\x02" + stamp(1, A, 1) + b"\x00")
 bad_record("place_as_old", add_track((2, B, 1), (2, A, 1), "n")[1])
 bad_record("moved_track_as_old", move_track((2, B, 1), (2, A, 1), None)[1])

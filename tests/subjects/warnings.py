@@ -1,5 +1,4 @@
-"""Cases of `radio check`: what sounds otherwise than one may think, and what is refused as `render`
-refuses it."""
+"""Cases of `radio check`: warnings, and errors, which are those of `render`."""
 from subjects.case import ONE, case, fault
 from subjects.renders import (
     CLIP, COVERED, LOW_RATE, OTHER, PAIRS, SECOND, TENS, THREE, TRACK, TWENTIES, clip, named, wave,
@@ -56,7 +55,7 @@ def held(own, need):
 checks("no_clip", [], [], [])
 checks("a_clip", ONE_CLIP, [THREE], [])
 
-# clips that go on behind the end of their recordings
+# clips that run past the end of their recordings
 checks("to_the_last_frame", clip(THREE, offset=1, length=2), [THREE], [])
 checks("one_frame_past_the_end", clip(THREE, offset=1), [THREE], [past_end(CLIP, 4, 3)])
 checks(
@@ -81,7 +80,7 @@ checks(
     [],
 )
 SECOND_TOO = [add_track(SECOND, None, "Music"), add_clip(OTHER, named(TWENTIES), SECOND, 0, 0, 4)]
-# the second track was put at the head
+# the second track was added at the head
 checks(
     "two_clips_past_the_end",
     clip(TENS, length=9) + SECOND_TOO,
@@ -218,7 +217,7 @@ checks(
     [behind((4, A, 4), 1)],
 )
 
-# operations that wait
+# held operations
 checks(
     "a_held_clip",
     ONE_CLIP + [add_clip((9, B, 2), named(THREE), SECOND, 0, 0, 9)],
@@ -284,7 +283,7 @@ checks(
     ],
 )
 
-# refused as `render` is
+# errors, as of `render`
 refused("of_no_log", 45, ["log"])
 refused("of_a_damaged_log", 13, ["log"], {"log": ONE[:-1]})
 refused("of_a_missing_file_beside_a_damaged_log", 45, ["log", "r1"], {"log": ONE[:-1]})

@@ -1,4 +1,4 @@
-"""Cases of wave files: what `radio info` tells of them, the examples, and what is refused."""
+"""Cases of wave files: the output of `radio info`, the examples, and errors."""
 from subjects.case import case, fault, not_told, told
 from formats.waves import (
     FLOAT, adtl, bext, chunk, cue, data, extensible, fmt, info, labl, ltxt, point, riff,
@@ -288,7 +288,7 @@ told(
 )
 case("wave_called_dash", ["info", "-"], files={"-": SMALLEST}, stdout=info(SMALLEST, **EIGHT))
 
-# wave files that are refused
+# wave files that are rejected
 for length, number in [
     (0, 26), (7, 26), (8, 27), (11, 27), (12, 29), (19, 29), (20, 28), (35, 28), (36, 32), (43, 32),
     (44, 28),

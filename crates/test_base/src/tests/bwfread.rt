@@ -77,9 +77,8 @@ const EXTENSIBLE: &[u8] =
       \0\0\0\0\0\x01\0\0\0\0\0\x10\0\x80\0\0\xaa\0\x38\x9b\x71data\x01\0\0\0\0";
 
 // A file with a `JUNK` chunk of three bytes and its pad byte before the format.
-const WITH_JUNK: &[u8] =
-    b"RIFF\x31\0\0\0WAVEJUNK\x03\0\0\0abc\0\
-      fmt \x10\0\0\0\x01\0\x01\0\x44\xac\0\0\x44\xac\0\0\x01\0\x08\0data\x01\0\0\0\0";
+const WITH_JUNK: &[u8] = b"RIFF\x31\0\0\0WAVEJUNK\x03\0\0\0abc\0\
+    fmt \x10\0\0\0\x01\0\x01\0\x44\xac\0\0\x44\xac\0\0\x01\0\x08\0data\x01\0\0\0\0";
 
 // Whether these bytes are read like the smallest file.
 fn is_smallest(bytes: &[u8]) -> bool {

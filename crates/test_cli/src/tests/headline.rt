@@ -263,13 +263,11 @@ fn edits_as_scripted(alloc: Global, log: Log, change: &Change, script: &[u8]) ->
 
 // three_sample_file, changed by `edit`
 fn moves_as_scripted(alloc: Global, change: &Change) -> Option<bool> {
-    let script =
-        b"add-track head Voice\n\
-          add-clip cc0a0e0651f6e9e304442665437ab61ac3b5302b51bb4a161b144bf9985dfb79 $1 0 0 3\n";
+    let script = b"add-track head Voice\n\
+        add-clip cc0a0e0651f6e9e304442665437ab61ac3b5302b51bb4a161b144bf9985dfb79 $1 0 0 3\n";
     let log = went_on(alloc, A, Log::new(alloc), script)?;
-    let moved =
-        b"move-clip 2.2.00000000-0000-0000-0000-00000000000a \
-          1.1.00000000-0000-0000-0000-00000000000a 70\n";
+    let moved = b"move-clip 2.2.00000000-0000-0000-0000-00000000000a \
+        1.1.00000000-0000-0000-0000-00000000000a 70\n";
     edits_as_scripted(alloc, log, change, moved)
 }
 

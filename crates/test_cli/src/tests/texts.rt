@@ -2,33 +2,29 @@
 //! (`tests/formats`).
 
 /// The log without operations.
-pub(crate) const EMPTY: &[u8] =
-    b"RMTS\x01\0\0\0\0\0\0\0\0\
-      \x11\x16\xdd\xab\xe2:a\xd2\xbd\xea\xf3\x06\x06\x0d\xd62;\xc4\xbc\xc6\xb9\xeb\xc9\x85\xe13n\
-      \x1a>\x85#Q";
+pub(crate) const EMPTY: &[u8] = b"RMTS\x01\0\0\0\0\0\0\0\0\
+    \x11\x16\xdd\xab\xe2:a\xd2\xbd\xea\xf3\x06\x06\x0d\xd62;\xc4\xbc\xc6\xb9\xeb\xc9\x85\xe13n\
+    \x1a>\x85#Q";
 
 /// The log of `(1, A, 1)`, a marker at frame 480 with the title `News`.
-pub(crate) const NEWS: &[u8] =
-    b"RMTS\x01\0\0\0\0\0\0\0\x01\
-      \0\0\0\0\0\0\0\x01\0\0\0\0\0\0\0\0\0\0\0\0\0\0\0\n\0\0\0\0\0\0\0\x01\n\0\0\x01\xe0\x04News\
-      V\xbc\xa5\xd5\x94\x11\xf1\x8b%\xd0Kj\xc5\xc7y=\x90f+\xb3z,\x84'+3\x07Ox\x0e\x8f\x0c";
+pub(crate) const NEWS: &[u8] = b"RMTS\x01\0\0\0\0\0\0\0\x01\
+    \0\0\0\0\0\0\0\x01\0\0\0\0\0\0\0\0\0\0\0\0\0\0\0\n\0\0\0\0\0\0\0\x01\n\0\0\x01\xe0\x04News\
+    V\xbc\xa5\xd5\x94\x11\xf1\x8b%\xd0Kj\xc5\xc7y=\x90f+\xb3z,\x84'+3\x07Ox\x0e\x8f\x0c";
 
 /// The log of `(2, B, 1)`, which gives that marker the title `Late`.
-pub(crate) const LATE: &[u8] =
-    b"RMTS\x01\0\0\0\0\0\0\0\x01\
-      \0\0\0\0\0\0\0\x02\0\0\0\0\0\0\0\0\0\0\0\0\0\0\0\x0b\0\0\0\0\0\0\0\x01\x0c\
-      \0\0\0\0\0\0\0\x01\0\0\0\0\0\0\0\0\0\0\0\0\0\0\0\n\0\0\0\0\0\0\0\x01\x04Late\
-      \xe4\xe2\xb6\xe3\x80\x8c\x99\xd2nh;\x038C\xc6\x02\xe7\x7f\xd9\xbe\\\xcb\x15\xda\xc3pa2\xc5 4\
-      \xba";
+pub(crate) const LATE: &[u8] = b"RMTS\x01\0\0\0\0\0\0\0\x01\
+    \0\0\0\0\0\0\0\x02\0\0\0\0\0\0\0\0\0\0\0\0\0\0\0\x0b\0\0\0\0\0\0\0\x01\x0c\
+    \0\0\0\0\0\0\0\x01\0\0\0\0\0\0\0\0\0\0\0\0\0\0\0\n\0\0\0\0\0\0\0\x01\x04Late\
+    \xe4\xe2\xb6\xe3\x80\x8c\x99\xd2nh;\x038C\xc6\x02\xe7\x7f\xd9\xbe\\\xcb\x15\xda\xc3pa2\xc5 4\
+    \xba";
 
 /// The log of both.
-pub(crate) const BOTH: &[u8] =
-    b"RMTS\x01\0\0\0\0\0\0\0\x02\
-      \0\0\0\0\0\0\0\x01\0\0\0\0\0\0\0\0\0\0\0\0\0\0\0\n\0\0\0\0\0\0\0\x01\n\0\0\x01\xe0\x04News\
-      \0\0\0\0\0\0\0\x02\0\0\0\0\0\0\0\0\0\0\0\0\0\0\0\x0b\0\0\0\0\0\0\0\x01\x0c\
-      \0\0\0\0\0\0\0\x01\0\0\0\0\0\0\0\0\0\0\0\0\0\0\0\n\0\0\0\0\0\0\0\x01\x04Late\
-      r\xa1\xd5j\xe4\xce\x0d\xdf\x07\xd1z\x16\x9e\x1d\xa5\x91\x17\xd0\x81\xb5-s-\xc8\x169\x1c\xc8\
-      \xd4\xf4\xc6O";
+pub(crate) const BOTH: &[u8] = b"RMTS\x01\0\0\0\0\0\0\0\x02\
+    \0\0\0\0\0\0\0\x01\0\0\0\0\0\0\0\0\0\0\0\0\0\0\0\n\0\0\0\0\0\0\0\x01\n\0\0\x01\xe0\x04News\
+    \0\0\0\0\0\0\0\x02\0\0\0\0\0\0\0\0\0\0\0\0\0\0\0\x0b\0\0\0\0\0\0\0\x01\x0c\
+    \0\0\0\0\0\0\0\x01\0\0\0\0\0\0\0\0\0\0\0\0\0\0\0\n\0\0\0\0\0\0\0\x01\x04Late\
+    r\xa1\xd5j\xe4\xce\x0d\xdf\x07\xd1z\x16\x9e\x1d\xa5\x91\x17\xd0\x81\xb5-s-\xc8\x169\x1c\xc8\
+    \xd4\xf4\xc6O";
 
 /// The session of both.
 pub(crate) const SHOWN: &[u8] =
@@ -53,15 +49,14 @@ pub(crate) const LOUD: &[u8] =
       data\x08\0\0\0\0\0\0@\0\x80\0 ";
 
 /// The log of a track with a clip of the four frames of that file.
-pub(crate) const LOUD_VOICE: &[u8] =
-    b"RMTS\x01\0\0\0\0\0\0\0\x02\
-      \0\0\0\0\0\0\0\x01\0\0\0\0\0\0\0\0\0\0\0\0\0\0\0\n\0\0\0\0\0\0\0\x01\x01\0\x05Voice\
-      \0\0\0\0\0\0\0\x02\0\0\0\0\0\0\0\0\0\0\0\0\0\0\0\n\0\0\0\0\0\0\0\x02\x03\
-      \xb5\xa0\xf3\xcb\x91^\xa5$\xed6f(5\x8fZ'\x03)\x17\x02\x99M\x86\xa54\x17\xea6\xc521\xee\
-      \0\0\0\0\0\0\0\x01\0\0\0\0\0\0\0\0\0\0\0\0\0\0\0\n\0\0\0\0\0\0\0\x01\0\0\0\0\0\0\0\0\
-      \0\0\0\x04\
-      \x07\xc7\xb9\x8bV\xba\xdd\xdc\x1a+\xfc7M\xe7\x92\x81\xa5\xe7\x0c J3S\xbf\xfe\x03Cq5\xbd\xd3\
-      \xde";
+pub(crate) const LOUD_VOICE: &[u8] = b"RMTS\x01\0\0\0\0\0\0\0\x02\
+    \0\0\0\0\0\0\0\x01\0\0\0\0\0\0\0\0\0\0\0\0\0\0\0\n\0\0\0\0\0\0\0\x01\x01\0\x05Voice\
+    \0\0\0\0\0\0\0\x02\0\0\0\0\0\0\0\0\0\0\0\0\0\0\0\n\0\0\0\0\0\0\0\x02\x03\
+    \xb5\xa0\xf3\xcb\x91^\xa5$\xed6f(5\x8fZ'\x03)\x17\x02\x99M\x86\xa54\x17\xea6\xc521\xee\
+    \0\0\0\0\0\0\0\x01\0\0\0\0\0\0\0\0\0\0\0\0\0\0\0\n\0\0\0\0\0\0\0\x01\0\0\0\0\0\0\0\0\
+    \0\0\0\x04\
+    \x07\xc7\xb9\x8bV\xba\xdd\xdc\x1a+\xfc7M\xe7\x92\x81\xa5\xe7\x0c J3S\xbf\xfe\x03Cq5\xbd\xd3\
+    \xde";
 
 /// The picture of that log, with the peaks of the file.
 pub(crate) const PICTURE: &[u8] = b"\
@@ -116,14 +111,13 @@ pub(crate) const SENT: &[u8] =
       \0\x01\xe0\x04News\0\0\0\x01\x03";
 
 /// The log of a track with a clip of the three frames of test_kit's recording.
-pub(crate) const VOICE: &[u8] =
-    b"RMTS\x01\0\0\0\0\0\0\0\x02\
-      \0\0\0\0\0\0\0\x01\0\0\0\0\0\0\0\0\0\0\0\0\0\0\0\n\0\0\0\0\0\0\0\x01\x01\0\x05Voice\
-      \0\0\0\0\0\0\0\x02\0\0\0\0\0\0\0\0\0\0\0\0\0\0\0\n\0\0\0\0\0\0\0\x02\x03\
-      \xcc\n\x0e\x06Q\xf6\xe9\xe3\x04D&eCz\xb6\x1a\xc3\xb50+Q\xbbJ\x16\x1b\x14K\xf9\x98]\xfby\
-      \0\0\0\0\0\0\0\x01\0\0\0\0\0\0\0\0\0\0\0\0\0\0\0\n\0\0\0\0\0\0\0\x01\0\0\0\0\0\0\0\0\
-      \0\0\0\x03\
-      \xec!j\xa9@.\x0c\xb4\x15\xf4\xa9_\x1b\x01U:Y\xbe\x07\xf4F\xd4\xce\x92\x93OK2\xa26\x1f`";
+pub(crate) const VOICE: &[u8] = b"RMTS\x01\0\0\0\0\0\0\0\x02\
+    \0\0\0\0\0\0\0\x01\0\0\0\0\0\0\0\0\0\0\0\0\0\0\0\n\0\0\0\0\0\0\0\x01\x01\0\x05Voice\
+    \0\0\0\0\0\0\0\x02\0\0\0\0\0\0\0\0\0\0\0\0\0\0\0\n\0\0\0\0\0\0\0\x02\x03\
+    \xcc\n\x0e\x06Q\xf6\xe9\xe3\x04D&eCz\xb6\x1a\xc3\xb50+Q\xbbJ\x16\x1b\x14K\xf9\x98]\xfby\
+    \0\0\0\0\0\0\0\x01\0\0\0\0\0\0\0\0\0\0\0\0\0\0\0\n\0\0\0\0\0\0\0\x01\0\0\0\0\0\0\0\0\
+    \0\0\0\x03\
+    \xec!j\xa9@.\x0c\xb4\x15\xf4\xa9_\x1b\x01U:Y\xbe\x07\xf4F\xd4\xce\x92\x93OK2\xa26\x1f`";
 
 /// The timeline of that log, in three columns.
 pub(crate) const DRAWN_VOICE: &[u8] =

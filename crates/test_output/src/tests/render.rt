@@ -15,14 +15,13 @@ use std::alloc::{Allocator, Global};
 use test_kit::{RECORDING, Refusing};
 
 // The log of a track with a clip of the three frames of the recording.
-const VOICE: &[u8] =
-    b"RMTS\x01\0\0\0\0\0\0\0\x02\
-      \0\0\0\0\0\0\0\x01\0\0\0\0\0\0\0\0\0\0\0\0\0\0\0\n\0\0\0\0\0\0\0\x01\x01\0\x05Voice\
-      \0\0\0\0\0\0\0\x02\0\0\0\0\0\0\0\0\0\0\0\0\0\0\0\n\0\0\0\0\0\0\0\x02\x03\
-      \xcc\n\x0e\x06Q\xf6\xe9\xe3\x04D&eCz\xb6\x1a\xc3\xb50+Q\xbbJ\x16\x1b\x14K\xf9\x98]\xfby\
-      \0\0\0\0\0\0\0\x01\0\0\0\0\0\0\0\0\0\0\0\0\0\0\0\n\0\0\0\0\0\0\0\x01\0\0\0\0\0\0\0\0\
-      \0\0\0\x03\
-      \xec!j\xa9@.\x0c\xb4\x15\xf4\xa9_\x1b\x01U:Y\xbe\x07\xf4F\xd4\xce\x92\x93OK2\xa26\x1f`";
+const VOICE: &[u8] = b"RMTS\x01\0\0\0\0\0\0\0\x02\
+    \0\0\0\0\0\0\0\x01\0\0\0\0\0\0\0\0\0\0\0\0\0\0\0\n\0\0\0\0\0\0\0\x01\x01\0\x05Voice\
+    \0\0\0\0\0\0\0\x02\0\0\0\0\0\0\0\0\0\0\0\0\0\0\0\n\0\0\0\0\0\0\0\x02\x03\
+    \xcc\n\x0e\x06Q\xf6\xe9\xe3\x04D&eCz\xb6\x1a\xc3\xb50+Q\xbbJ\x16\x1b\x14K\xf9\x98]\xfby\
+    \0\0\0\0\0\0\0\x01\0\0\0\0\0\0\0\0\0\0\0\0\0\0\0\n\0\0\0\0\0\0\0\x01\0\0\0\0\0\0\0\0\
+    \0\0\0\x03\
+    \xec!j\xa9@.\x0c\xb4\x15\xf4\xa9_\x1b\x01U:Y\xbe\x07\xf4F\xd4\xce\x92\x93OK2\xa26\x1f`";
 
 // Another recording, one frame of 8 bits.
 const ONE_FRAME: &[u8] =

@@ -40,29 +40,26 @@ pub(super) fn is_run<M: Allocator + Copy>(memory: M, tally: &Refusing<Global>) -
 }
 
 // The log of a marker.
-const ONE_MARKER: &[u8] =
-    b"RMTS\x01\0\0\0\0\0\0\0\x01\
-      \0\0\0\0\0\0\0\x01\0\0\0\0\0\0\0\0\0\0\0\0\0\0\0\n\0\0\0\0\0\0\0\x01\n\0\0\x01\xe0\x04News\
-      V\xbc\xa5\xd5\x94\x11\xf1\x8b%\xd0Kj\xc5\xc7y=\x90f+\xb3z,\x84'+3\x07Ox\x0e\x8f\x0c";
+const ONE_MARKER: &[u8] = b"RMTS\x01\0\0\0\0\0\0\0\x01\
+    \0\0\0\0\0\0\0\x01\0\0\0\0\0\0\0\0\0\0\0\0\0\0\0\n\0\0\0\0\0\0\0\x01\n\0\0\x01\xe0\x04News\
+    V\xbc\xa5\xd5\x94\x11\xf1\x8b%\xd0Kj\xc5\xc7y=\x90f+\xb3z,\x84'+3\x07Ox\x0e\x8f\x0c";
 
 // The log without operations.
-const EMPTY: &[u8] =
-    b"RMTS\x01\0\0\0\0\0\0\0\0\
-      \x11\x16\xdd\xab\xe2:a\xd2\xbd\xea\xf3\x06\x06\x0d\xd62;\xc4\xbc\xc6\xb9\xeb\xc9\x85\xe13n\
-      \x1a>\x85#Q";
+const EMPTY: &[u8] = b"RMTS\x01\0\0\0\0\0\0\0\0\
+    \x11\x16\xdd\xab\xe2:a\xd2\xbd\xea\xf3\x06\x06\x0d\xd62;\xc4\xbc\xc6\xb9\xeb\xc9\x85\xe13n\
+    \x1a>\x85#Q";
 
 // The log of the four operations that a script creates.
-const FOUR_MADE: &[u8] =
-    b"RMTS\x01\0\0\0\0\0\0\0\x04\
-      \0\0\0\0\0\0\0\x01\0\0\0\0\0\0\0\0\0\0\0\0\0\0\0\n\0\0\0\0\0\0\0\x01\x01\0\x05Voice\
-      \0\0\0\0\0\0\0\x02\0\0\0\0\0\0\0\0\0\0\0\0\0\0\0\n\0\0\0\0\0\0\0\x02\x03\
-      \xbax\x16\xbf\x8f\x01\xcf\xeaAA@\xde]\xae\"#\xb0\x03a\xa3\x96\x17z\x9c\xb4\x10\xffa\xf2\0\x15\
-      \xad\0\0\0\0\0\0\0\x01\0\0\0\0\0\0\0\0\0\0\0\0\0\0\0\n\0\0\0\0\0\0\0\x01\0\0\0\0\0\0\0\n\
-      \0\0\0\x14\
-      \0\0\0\0\0\0\0\x03\0\0\0\0\0\0\0\0\0\0\0\0\0\0\0\n\0\0\0\0\0\0\0\x03\x06\
-      \0\0\0\0\0\0\0\x02\0\0\0\0\0\0\0\0\0\0\0\0\0\0\0\n\0\0\0\0\0\0\0\x02\0\x01\0\x02\
-      \0\0\0\0\0\0\0\x04\0\0\0\0\0\0\0\0\0\0\0\0\0\0\0\n\0\0\0\0\0\0\0\x04\n\0\0\x01\xe0\x04News\
-      o\0\xd6\x92$\x03X\x0fDg\x8dqtV/\xf5\xb2Y\xd2\xcea\xf2\x03pV\xe4\xd7\xca\xaa\xd9$g";
+const FOUR_MADE: &[u8] = b"RMTS\x01\0\0\0\0\0\0\0\x04\
+    \0\0\0\0\0\0\0\x01\0\0\0\0\0\0\0\0\0\0\0\0\0\0\0\n\0\0\0\0\0\0\0\x01\x01\0\x05Voice\
+    \0\0\0\0\0\0\0\x02\0\0\0\0\0\0\0\0\0\0\0\0\0\0\0\n\0\0\0\0\0\0\0\x02\x03\
+    \xbax\x16\xbf\x8f\x01\xcf\xeaAA@\xde]\xae\"#\xb0\x03a\xa3\x96\x17z\x9c\xb4\x10\xffa\xf2\0\x15\
+    \xad\0\0\0\0\0\0\0\x01\0\0\0\0\0\0\0\0\0\0\0\0\0\0\0\n\0\0\0\0\0\0\0\x01\0\0\0\0\0\0\0\n\
+    \0\0\0\x14\
+    \0\0\0\0\0\0\0\x03\0\0\0\0\0\0\0\0\0\0\0\0\0\0\0\n\0\0\0\0\0\0\0\x03\x06\
+    \0\0\0\0\0\0\0\x02\0\0\0\0\0\0\0\0\0\0\0\0\0\0\0\n\0\0\0\0\0\0\0\x02\0\x01\0\x02\
+    \0\0\0\0\0\0\0\x04\0\0\0\0\0\0\0\0\0\0\0\0\0\0\0\n\0\0\0\0\0\0\0\x04\n\0\0\x01\xe0\x04News\
+    o\0\xd6\x92$\x03X\x0fDg\x8dqtV/\xf5\xb2Y\xd2\xcea\xf2\x03pV\xe4\xd7\xca\xaa\xd9$g";
 
 // Whether an editor has this log.
 fn has_log(editor: &Editor, text: &[u8]) -> bool {

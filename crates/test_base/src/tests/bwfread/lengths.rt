@@ -43,21 +43,19 @@ fn gives(alloc: Global, list: &[u8], length: Option<u32>) -> Result<bool, AllocE
 // row: smallest_wave_short_length
 #[test]
 fn passes_over_a_length_of_19_bytes(rt: HostRuntime) -> Result<(), Fail> {
-    let list =
-        b"adtl\
-          ltxt\x13\0\0\0\x01\0\0\0\x03\0\0\0rgn \0\0\0\0\0\0\0\0\
-          labl\x09\0\0\0\x01\0\0\0News\0\0";
+    let list = b"adtl\
+        ltxt\x13\0\0\0\x01\0\0\0\x03\0\0\0rgn \0\0\0\0\0\0\0\0\
+        labl\x09\0\0\0\x01\0\0\0News\0\0";
     assert!(rt; gives(rt.alloc(), list, None)?);
     Ok(())
 }
 
 #[test]
 fn takes_the_first_of_two_lengths(rt: HostRuntime) -> Result<(), Fail> {
-    let list =
-        b"adtl\
-          ltxt\x14\0\0\0\x01\0\0\0\x03\0\0\0beat\0\0\0\0\0\0\0\0\
-          ltxt\x14\0\0\0\x01\0\0\0\x04\0\0\0rgn \0\0\0\0\0\0\0\0\
-          labl\x09\0\0\0\x01\0\0\0News\0\0";
+    let list = b"adtl\
+        ltxt\x14\0\0\0\x01\0\0\0\x03\0\0\0beat\0\0\0\0\0\0\0\0\
+        ltxt\x14\0\0\0\x01\0\0\0\x04\0\0\0rgn \0\0\0\0\0\0\0\0\
+        labl\x09\0\0\0\x01\0\0\0News\0\0";
     assert!(rt; gives(rt.alloc(), list, Some(3))?);
     Ok(())
 }
@@ -109,7 +107,8 @@ fn passes_over_a_label_and_a_length_that_are_too_long(rt: HostRuntime) -> Result
     for list in [
         b"adtl\
           labl\x09\0\0\0\x01\0\0\0News\0\0\
-          ltxt\xff\xff\xff\xff\x01\0\0\0\x03\0\0\0rgn \0\0\0\0\0\0\0\0".as_slice(),
+          ltxt\xff\xff\xff\xff\x01\0\0\0\x03\0\0\0rgn \0\0\0\0\0\0\0\0"
+            .as_slice(),
         b"adtllabl\x09\0\0\0\x01\0\0\0News\0\0labl\xff\xff\xff\xff\x01\0\0\0Else\0\0",
     ] {
         assert!(rt; gives(rt.alloc(), list, None)?);
