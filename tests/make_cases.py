@@ -18,7 +18,7 @@ from subjects.case import MADE
 # a subject comes after those that it uses
 SUBJECTS = """
 markers tracks logs merges pulls waves renders sources finds listings diffs timelines pictures lays
-reverts warnings command_lines edits forms exchanges parts names causes refusals
+reverts warnings exports command_lines edits forms exchanges parts names causes refusals
 """.split()
 
 

@@ -258,7 +258,7 @@ class Bench:
         scene = trial.scene
         if parts:
             told = self.stage.run(scene, files=left)
-            early = scene.words[0] in ("merge", "pull", "render")
+            early = scene.words[0] in ("new", "merge", "pull", "render")
             number = WRITE if early or scene.right.number is None else scene.right.number
             if (told.status, refusal(told), told.files) != (1, number, left):
                 self.fault(

@@ -17,6 +17,7 @@ from formats.read_logs import read_log, write_log
 from formats.read_messages import End
 from formats.refused import Refused
 
+LABELS = b"0.010000\t0.020000\tNews\n1.0\t1.0\tWeather\n"
 OLD = b"what was there"
 EXPLAINED = next(case.stdout for case in stored_cases() if case.title == "explain/a_number")
 PATIENCE = 30
@@ -142,6 +143,14 @@ def scenes(count, size):
         Scene(
             "lay that is refused", ["lay", "$1", "r", "script"], {"r": recording, "script": script}
         ),
+        Scene("new", ["new", "out"], {}),
+        Scene("csv", ["csv", "--rate", "48000", "log"], {"log": log(played)}),
+        Scene("labels", ["labels", "log"], {"log": whole}),
+        Scene("labels that are read", ["labels", "--read", "labels"], {"labels": LABELS}),
+        Scene("labels that are refused", ["labels", "--read", "script"], {"script": script}),
+        Scene("edl", ["edl", "log"], {"log": log(played)}),
+        Scene("cues", ["cues", "--at", "7", "r", "r"], {"r": recording}),
+        Scene("cues that are refused", ["cues", "r", "script"], {"r": recording, "script": script}),
         Scene("have", ["have", "log", "out"], {"log": whole, "out": OLD}),
         Scene("lack", ["lack", "log", "have", "out"], {"log": whole, "have": asked, "out": OLD}),
         Scene("take", ["take", "log", "ops", "out"], {"log": whole, "ops": sent, "out": OLD}),
@@ -172,6 +181,11 @@ def endless_scenes():
         ["diff", "log", zero],
         ["find", "--wave", "log", "clip", zero],
         ["lay", "$1", zero],
+        ["csv", zero],
+        ["labels", zero],
+        ["labels", "--read", zero],
+        ["edl", zero],
+        ["cues", zero],
         ["check", "log", zero],
         ["serve", "127.0.0.1:0", zero, "out"],
     ]

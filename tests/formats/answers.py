@@ -7,11 +7,13 @@ right, and reads and checks each in turn (`sources` and `lay` open each file whe
 import hashlib
 
 from formats.diff_text import diff_by, side
+from formats.exports import FRAME_RATES, csv_text, cues_script, edl_text, labels_script
+from formats.exports import labels_text
 from formats.find_text import find_text, source_of
 from formats.lay_text import BAD_TEXT, check_track, lay_text
 from formats.line_forms import json_text, plain_script, times_text
 from formats.log_text import log_text
-from formats.mixes import Mix, check_format, check_head
+from formats.mixes import BAD_FORMAT, Mix, check_format, check_head
 from formats.read_logs import dot, read_log, union, write_log
 from formats.read_messages import have_bytes, lack_bytes, take_ops
 from formats.read_waves import Wave
@@ -277,6 +279,45 @@ def check(folder, *words):
     return Answer(output=(times_text(layout[0], text) if "--times" in words else text).encode())
 
 
+def numbers(options, *texts):
+    """The options, with numbers for all but some."""
+    return {name: value if name in texts else int(value) for name, value in options.items()}
+
+
+def new(folder, log):
+    folder.part(log)
+    return Answer(made={log: write_log([])})
+
+
+def csv(folder, *words):
+    (log,), options = parted(words, {"rate": ""})
+    rate = int(options["rate"]) if options["rate"] else None
+    return Answer(output=csv_text(session_of(read_log(*folder.open(log))), rate).encode())
+
+
+def labels(folder, *words):
+    names, options = parted(words, {"rate": "48000", "line": "1"}, {"--read"})
+    (file,), options = folder.open(*names), numbers(options)
+    if "--read" in words:
+        return Answer(output=labels_script(file, **options))
+    return Answer(output=labels_text(session_of(read_log(file)), options["rate"]).encode())
+
+
+def edl(folder, *words):
+    (log,), options = parted(words, {"rate": "48000", "fps": "25", "track": "1", "title": ""})
+    refuse_unless(options["fps"] in FRAME_RATES, BAD_FORMAT)
+    session = session_of(read_log(*folder.open(log)))
+    return Answer(output=edl_text(session, log, **numbers(options, "fps", "title")).encode())
+
+
+def cues(folder, *words):
+    names, options = parted(words, {"at": "0", "rate": "48000", "line": "1"})
+    waves = []
+    for name in names:
+        waves += map(Wave, folder.open(name))
+    return Answer(output=cues_script(waves, **numbers(options)))
+
+
 def parted(words, defaults=OPTIONS, flags=(), several=()):
     """The names among the words of `render`, or of another command with these options, and its
     options. Flags are skipped, and for the options `several` each value counts."""
@@ -302,7 +343,8 @@ def parted(words, defaults=OPTIONS, flags=(), several=()):
 COMMANDS = {
     "view": view, "log": list_ops, "timeline": timeline, "merge": merge, "pull": pull, "edit": edit,
     "have": have, "lack": lack, "take": take, "info": info, "sources": sources, "find": find,
-    "diff": diff, "revert": revert, "lay": lay, "check": check, "render": render,
+    "diff": diff, "revert": revert, "lay": lay, "check": check, "render": render, "new": new,
+    "csv": csv, "labels": labels, "edl": edl, "cues": cues,
 }
 
 
@@ -310,7 +352,7 @@ def answer(words, files, stdin=b""):
     """The program's answer to these words with these files, by name."""
     try:
         told = COMMANDS[words[0]](
-            Folder(files, stdin, "--new" in words),
+            Folder(files, stdin, "--new" in words or words[0] == "new"),
             *[word for word in words[1:] if word not in ("--", "--new", "--no-sync")],
         )
         return Answer(WRITE, told.output) if "" in told.made else told

@@ -9,9 +9,9 @@ from formats.waves import info
 # the cases by command, each in the order in which the subjects make them
 MADE = {}
 COMMANDS = (
-    "view", "log", "timeline", "merge", "pull", "edit", "revert", "sources", "find", "diff",
-    "check", "render", "have", "lack", "take", "serve", "meet", "info", "lay", "explain",
-    "completions", "man",
+    "new", "view", "log", "timeline", "merge", "pull", "edit", "revert", "sources", "find", "diff",
+    "check", "render", "labels", "csv", "edl", "have", "lack", "take", "serve", "meet", "info",
+    "cues", "lay", "explain", "completions", "man",
 )
 NEWS = add_marker((1, A, 1), 480, "News")
 LATE = retitle((2, B, 1), (1, A, 1), "Late")

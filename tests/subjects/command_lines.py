@@ -27,9 +27,9 @@ case(
     status=2,
     stderr=(
         "error: 'radio' requires a subcommand but one was not provided\n"
-        "  [subcommands: view, log, timeline, pull, merge, edit, revert, sources, find, diff, "
-        "check, render, have, lack, take, serve, meet, info, lay, id, explain, completions, man, "
-        "help]\n\n"
+        "  [subcommands: new, view, log, timeline, pull, merge, edit, revert, sources, find, diff, "
+        "check, render, labels, csv, edl, have, lack, take, serve, meet, info, cues, lay, id, "
+        "explain, completions, man, help]\n\n"
         + USAGE
     ),
 )
@@ -58,6 +58,7 @@ HELP = """A nondestructive multitrack audio editor whose sessions are replicated
 Usage: radio [OPTIONS] <COMMAND>
 
 Commands:
+  new          Creates an empty log
   view         Prints the session: tracks, clips and markers of one or more logs
   log          Prints the operations of one or more logs, sorted by stamp
   timeline     Draws the session of one or more logs as text, or as a picture
@@ -71,12 +72,16 @@ Commands:
   check        Checks a programme before rendering: fails as render would, and lists what may \
 sound unexpected
   render       Renders a log as a Broadcast Wave file, with markers as cue points
+  labels       Prints markers as an Audacity label track, or script lines for such a track
+  csv          Prints the session of a log as one table, for a spreadsheet
+  edl          Prints what is audible on a track as an edit decision list, in CMX 3600 format
   have         Writes a summary of a log, from which another editor sees what is missing
   lack         Writes the operations of a log that another editor is missing
   take         Adds the operations that another editor sent, and writes the new log
   serve        Waits for one editor who connects, exchanges operations, and writes the new log
   meet         Connects to an editor who serves, exchanges operations, and writes the new log
   info         Prints the format, texts and cue points of a wave file
+  cues         Prints script lines that add a marker for each cue point of recordings
   lay          Prints script lines that put recordings on a track, one after another
   id           Prints a new name for an editor: a random UUID
   explain      Explains error N and what to do about it; without N, lists all errors

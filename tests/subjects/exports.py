@@ -130,6 +130,17 @@ no_script("a_line_too_many", 35, b"1\t2\tA\n2\t2\tB\n", ["--line", "4294967295"]
 fault("labels_read_no_file", 45, ["labels", "--read", "t"])
 
 
+def caused(name, number, words, files, cause):
+    case(name, [words[0], "--why", *words[1:]], files=files, status=1,
+         stderr="radio: fault %d\nradio: why: %s\n" % (number, cause))
+
+
+caused("labels_read_a_bad_line_why", 41, ["labels", "--read", "t"], {"t": b"1\t1\tA\n\n2\t1\tB\n"},
+       "labels t line 3")
+caused("labels_read_a_line_too_many_why", 35, ["labels", "--read", "--line", "4294967295", "t"],
+       {"t": b"1\t2\tA\n2\t2\tB\n"}, "labels t")
+
+
 # ---- edl
 
 REEL, DIGEST = SOURCE.hex()[:8], "* DIGEST: %s\n" % SOURCE.hex()
@@ -197,8 +208,13 @@ for name, words in (("no_track", []), ("track_0", ["--track", "0"]), ("track_2",
 fault("edl_other_frames", 47, ["edl", "--fps", "23.976", "missing"])
 fault("edl_no_file", 45, ["edl", "log"])
 fault("edl_a_cut_log", 13, ["edl", "log"], files={"log": CUT})
-MANY = [VOICE] + [played(2 * number, 0, 1, (2, A, number)) for number in range(2, 1002)]
-fault("edl_1000_events", 35, ["edl", "log"], files={"log": log(MANY)})
+# 500 clips within a longer one, which is heard before, between and after them
+MANY = [VOICE, played(0, 0, 1001)]
+MANY += [played(2 * number + 1, 0, 1, (3, A, number + 3)) for number in range(500)]
+caused("edl_track_2_why", 21, ["edl", "--track", "2", "log"], {"log": log([VOICE])},
+       "log log items 1")
+caused("edl_other_frames_why", 47, ["edl", "--fps", "26", "log"], {"log": ONE}, "option --fps")
+caused("edl_1001_events_why", 35, ["edl", "log"], {"log": log(MANY)}, "log log")
 
 
 # ---- cues
@@ -251,3 +267,9 @@ not_pointed("a_cut_wave", 28, [BELL[:-2]])
 fault("cues_no_file", 45, ["cues", "r1", "r2"], files={"r1": BELL})
 fault("cues_a_folder", 45, ["cues", "folder"], setup="mkdir folder")
 fault("cues_output_full", 37, ["cues", "r"], files={"r": BELL}, output="full")
+caused("cues_another_rate_why", 34, ["cues", "r1", "r2"], {"r1": BELL, "r2": AT_44},
+       "source %s rate 44100 file r2" % named(AT_44).hex())
+caused("cues_too_late_why", 35, ["cues", "--at", "4294967291", "r1"], {"r1": BELL},
+       "recording r1 cue 0")
+caused("cues_no_wave_why", 26, ["cues", "r1", "r2"], {"r1": BELL, "r2": b"no"}, "recording r2")
+caused("cues_no_file_why", 45, ["cues", "r1", "r2"], {"r1": BELL}, "input r2")

@@ -55,3 +55,18 @@ case(
     made={"out": ONE},
 )
 case("have_new", ["have", "log", "out", "--new"], files={"log": ONE}, made={"out": summary([NEWS])})
+
+# `new` makes an empty log, and never replaces a file
+EMPTY = log([])
+case("new_log", ["new", "log"], made={"log": EMPTY})
+case("new_log_without_sync", ["new", "--no-sync", "log"], made={"log": EMPTY})
+fault("new_where_there_is_one", 37, ["new", "log"], files={"log": ONE})
+fault("new_where_there_is_an_empty_file", 37, ["new", "log"], files={"log": b""})
+fault("new_where_there_is_a_folder", 37, ["new", "folder"], setup="mkdir folder")
+fault("new_where_there_is_a_part", 37, ["new", "log"], files={"log.part": ONE})
+fault("new_in_a_missing_folder", 37, ["new", "folder/log"])
+case("new_where_there_is_one_why", ["new", "--why", "log"], files={"log": ONE}, status=1,
+     stderr="radio: fault 37\nradio: why: output log is there\n")
+case("new_of_two", ["new", "log", "other"], status=2,
+     stderr="error: unexpected argument 'other' found\n\nUsage: radio new [OPTIONS] <LOG>\n\n"
+     "For more information, try '--help'.\n")
