@@ -1,8 +1,9 @@
 //! The commands, with one call of each, its input and its output.
 use super::texts::{
-    ANSWER, BOTH, COMPARED, COMPARED_FIELDS, COMPARED_VIEWS, DRAWN_VOICE, EDITED, EMPTY, FILE,
-    FOUND_CLIP, FOUND_MARKER, HAS_NEWS, HAS_NOTHING, LAID, LATE, LISTED, LOUD_VOICE, NEWS, OBJECTS,
-    PICTURE, PLAYED, PULLED, REVERTED, SCRIPT, SENT, SHOWN, TIMED_SCRIPT, TOLD, VOICE,
+    ANSWER, BOTH, COMPARED, COMPARED_FIELDS, COMPARED_VIEWS, CUE_LINES, DRAWN_VOICE, EDITED,
+    EDIT_LIST, EMPTY, FILE, FOUND_CLIP, FOUND_MARKER, HAS_NEWS, HAS_NOTHING, LABELLED, LABELS,
+    LABELS_SCRIPT, LAID, LATE, LISTED, LOUD_VOICE, NEWS, OBJECTS, PICTURE, PLAYED, PULLED,
+    REVERTED, SCRIPT, SENT, SHOWN, TABLE, TIMED_SCRIPT, TOLD, VOICE,
 };
 use test_kit::RECORDING;
 
@@ -31,6 +32,11 @@ pub(crate) enum Call {
     DiffFields,
     DiffView,
     Revert,
+    Csv,
+    PrintLabels,
+    ReadLabels,
+    Edl,
+    Cues,
     Lay,
     Check,
     Bounce,
@@ -38,7 +44,7 @@ pub(crate) enum Call {
 }
 
 /// All of them.
-pub(crate) const CALLS: [Call; 27] = [
+pub(crate) const CALLS: [Call; 32] = [
     Call::ViewLog,
     Call::ViewLogs,
     Call::ViewObjects,
@@ -62,6 +68,11 @@ pub(crate) const CALLS: [Call; 27] = [
     Call::DiffFields,
     Call::DiffView,
     Call::Revert,
+    Call::Csv,
+    Call::PrintLabels,
+    Call::ReadLabels,
+    Call::Edl,
+    Call::Cues,
     Call::Lay,
     Call::Check,
     Call::Bounce,
@@ -73,10 +84,16 @@ const NOTHING: &[u8] = b"";
 /// Its inputs.
 pub(crate) fn inputs_of(call: Call) -> (&'static [u8], &'static [u8]) {
     match call {
-        Call::ViewLog | Call::ViewObjects | Call::ListLog | Call::FindMarker | Call::Revert => (
-            BOTH, NOTHING,
-        ),
-        Call::FindClip | Call::DrawLog => (VOICE, NOTHING),
+        Call::ViewLog
+        | Call::ViewObjects
+        | Call::ListLog
+        | Call::FindMarker
+        | Call::Revert
+        | Call::Csv
+        | Call::PrintLabels => (BOTH, NOTHING),
+        Call::ReadLabels => (LABELS, NOTHING),
+        Call::Cues => (LABELLED, NOTHING),
+        Call::FindClip | Call::DrawLog | Call::Edl => (VOICE, NOTHING),
         Call::DrawLogs => (LOUD_VOICE, EMPTY),
         Call::ViewLogs
         | Call::ListLogs
@@ -118,6 +135,11 @@ fn output_of(call: Call) -> &'static [u8] {
         Call::DiffFields => COMPARED_FIELDS,
         Call::DiffView => COMPARED_VIEWS,
         Call::Revert => REVERTED,
+        Call::Csv => TABLE,
+        Call::PrintLabels => LABELS,
+        Call::ReadLabels => LABELS_SCRIPT,
+        Call::Edl => EDIT_LIST,
+        Call::Cues => CUE_LINES,
         Call::Lay => LAID,
         Call::Check => b"warnings 0\n",
         Call::Bounce => NOTHING,

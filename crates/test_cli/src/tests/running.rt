@@ -4,10 +4,11 @@ ghost use Rattle.std.specs.Prelude.{IfSome, length, ◌≡◌};
 use super::calls::Call;
 use super::texts::{BOTH, EDITED, HAS_NEWS, LABELLED, LOUD, NEWS, PULLED, SENT};
 use mt_cli::{
-    CliFault, DiffKind, Drawing, FindQuery, Laying, SessionDrawing, TextOptions, bounce_logs,
-    check_log, diff_logs, draw_logs, edit_log, find_items, have_log, lack_log, lay_files,
-    list_logs, list_sources, merge_logs, pull_logs, read_growing, revert_log, swap_log, take_log,
-    view_logs, view_logs_in, write_info,
+    CliFault, CueOptions, DiffKind, Drawing, EdlOptions, FindQuery, Laying, SessionDrawing,
+    TextOptions, bounce_logs, check_log, csv_log, cue_files, diff_logs, draw_logs, edit_log,
+    edl_log, find_items, have_log, label_log, lack_log, lay_files, list_logs, list_sources,
+    merge_logs, pull_logs, read_growing, read_labels, revert_log, swap_log, take_log, view_logs,
+    view_logs_in, write_info,
 };
 use mt_cuewrite::Head;
 use mt_op::Digest;
@@ -19,6 +20,7 @@ use std::alloc::{Allocator, Global};
 use std::io::{Read, Write};
 use test_kit::{A, B, RECORDING};
 use text_check::Listing;
+use text_edl::FrameRate;
 use text_timeline::SpanUnits;
 
 // One reader.
@@ -137,6 +139,41 @@ fn run_on_log<M: Allocator + Clone, R: Read + Drop, W: Write>(
             revert_log(memory, &[renamed], &mut inputs, output)
         }
         _ => have_log(memory, &mut inputs, output),
+    }
+}
+
+// Commands that write texts for other programs, or read them.
+fn run_export<M: Allocator + Clone, R: Read + Drop, W: Write>(
+    memory: M,
+    alloc: Global,
+    call: Call,
+    (input, _other): (R, R),
+    output: &mut Latch<W>,
+) -> Result<(), CliFault> {
+    let Some(mut inputs) = one(alloc, input) else {
+        return Err(CliFault::Net);
+    };
+    match call {
+        Call::Csv => csv_log(memory, None, &mut inputs, output),
+        Call::PrintLabels => label_log(memory, 48_000, &mut inputs, output),
+        Call::ReadLabels => read_labels(memory, 48_000, 1, &mut inputs, output),
+        Call::Edl => {
+            let options = EdlOptions {
+                title: "Voice",
+                rate: 1,
+                frame_rate: FrameRate::Video25,
+                track: 1,
+            };
+            edl_log(memory, &options, &mut inputs, output)
+        }
+        _ => {
+            let options = CueOptions {
+                at: 0,
+                rate: 48_000,
+                line: 1,
+            };
+            cue_files(memory, &options, &mut inputs, output)
+        }
     }
 }
 
@@ -352,6 +389,9 @@ pub(crate) fn run<M: Allocator + Copy, R: Read + Drop, W: Write>(
         | Call::FindClip
         | Call::Revert
         | Call::Have => Some(run_on_log(memory, alloc, call, inputs, output)),
+        Call::Csv | Call::PrintLabels | Call::ReadLabels | Call::Edl | Call::Cues => {
+            Some(run_export(memory, alloc, call, inputs, output))
+        }
         Call::Lack | Call::Take | Call::Diff | Call::DiffFields | Call::DiffView => {
             Some(run_by_hand(memory, alloc, call, inputs, output))
         }

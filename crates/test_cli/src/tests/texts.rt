@@ -167,6 +167,26 @@ add-clip cc0a0e0651f6e9e304442665437ab61ac3b5302b51bb4a161b144bf9985dfb79 $1 5 0
 add-clip cc0a0e0651f6e9e304442665437ab61ac3b5302b51bb4a161b144bf9985dfb79 $1 10 0 3
 ";
 
+/// The session of the first two logs as a table.
+pub(crate) const TABLE: &[u8] = b"\
+kind,stamp,track,at,offset,length,gain,mute,fade_in,fade_out,title,source
+marker,1.1.00000000-0000-0000-0000-00000000000a,,480,,0,,,,,Late,
+";
+
+/// Its marker as a label track at 48,000 frames per second, and the script for that track.
+pub(crate) const LABELS: &[u8] = b"0.010000\t0.010000\tLate\n";
+
+pub(crate) const LABELS_SCRIPT: &[u8] = b"add-marker 480 Late\n";
+
+/// The edit decision list of the track with that recording, at one frame per second.
+pub(crate) const EDIT_LIST: &[u8] = b"\
+TITLE: Voice
+FCM: NON-DROP FRAME
+
+001  cc0a0e06 A     C        00:00:00:00 00:00:03:00 00:00:00:00 00:00:03:00
+* DIGEST: cc0a0e0651f6e9e304442665437ab61ac3b5302b51bb4a161b144bf9985dfb79
+";
+
 /// The rendered file of that log, 692 bytes.
 pub(crate) const FILE: [&[u8]; 7] = [
     b"RIFF\xac\x02\0\0WAVEbext\x75\x02\0\0",
@@ -200,6 +220,15 @@ bext none
 cue 1 at 5 len 3 label News
 cue 2 at 4294967295
 cue 1 at 0 len 3 label News
+";
+
+/// The lines that add a marker for each of its cue points.
+pub(crate) const CUE_LINES: &[u8] = b"\
+add-marker 5 News
+marker-length $1 3
+add-marker 4294967295 \n\
+add-marker 0 News
+marker-length $4 3
 ";
 
 /// One frame of 8 bits, without a final pad byte; and the report on it without its digest.
