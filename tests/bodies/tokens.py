@@ -18,8 +18,10 @@ REMARK = {
     ".rt": re.compile("(%s|%s)|//[^\n]*" % (STRING, LETTER)),
     ".antt": re.compile(r"(%s)|(?<!\S)--[^\n]*" % STRING),
 }
-# the comma that `rt fmt` puts after the last part of a list on several lines
+# the comma that `rt fmt` puts after the last part of a list on several lines, and the semicolon
+# after the last field of a record of contracts
 LAST_COMMA = re.compile(r",(?=[ \t]*\n\s*[)\]}>])")
+LAST_SEMICOLON = {".rt": re.compile("(?!)"), ".antt": re.compile(r";(?=\s*\})")}
 # lines that may be in another order: imports, and lists of modules
 SORTED = {
     ".rt": r"^[ \t]*(?:pub(?:\(\w+\))? |ghost )?(?:use\s[^;]*|mod \w+);[ \t]*\n",
@@ -127,7 +129,7 @@ def tokens_of(path, text, names):
     if kind == ".edit":
         return renamed(kind, plain_tokens(kind, text), scope)
     text = REMARK[kind].sub(lambda found: found.group(1) or "", text)
-    text = LAST_COMMA.sub("", text) + "\n"
+    text = LAST_SEMICOLON[kind].sub("", LAST_COMMA.sub("", text)) + "\n"
     made, block, at = [], [], 0
     for found in re.finditer(SORTED[kind], text, re.M):
         between = renamed(kind, plain_tokens(kind, text[at : found.start()]), scope)

@@ -20,16 +20,16 @@ four_columns rows = column 0 rows ∷ column 1 rows ∷ column 2 rows ∷ column
 abbrev pub HaveLeft : ℕ → List (List ℕ) → List ℕ → List ℕ → Type 0
 HaveLeft n messages blocks places = (k : ℕ) → k < length places
     → get_or blocks (slice_index places k) 0 + n ≤ length
-        (get_or messages (slice_index places k) []) / 64
+    (get_or messages (slice_index places k) []) / 64
 
 -- the states after n more blocks of each message
 abbrev pub AreAfter : ℕ → List (List ℕ) → List ℕ → List ℕ → List (List ℕ) → Type 0
 AreAfter n messages blocks places states = (k : ℕ) → k < length places
     → column k states ≡ hash_after initial_hash_256 (get_or messages (slice_index places k) [])
-        (get_or blocks (slice_index places k) 0 + n)
+    (get_or blocks (slice_index places k) 0 + n)
 
 -- the words of block i of the rest of each message
 abbrev pub AreWordsAt : ℕ → List (List ℕ) → List ℕ → List ℕ → List (List ℕ) → Type 0
 AreWordsAt i messages blocks places words = (k : ℕ) → k < length places
     → IsWindow (column k words) (schedule (block (get_or blocks (slice_index places k) 0 + i)
-        (get_or messages (slice_index places k) [])) 48) 16
+    (get_or messages (slice_index places k) [])) 48) 16

@@ -66,7 +66,7 @@ fn next_four(a: u32x4, b: u32x4, c: u32x4, d: u32x4) -> u32x4
     ensures { (m : List ℕ) (t : ℕ) → 16 ≤ t → t + 4 ≤ 64 → AreWordsFrom (t - 16) (schedule m 48) a
         → AreWordsFrom (t - 12) (schedule m 48) b
         → AreWordsFrom (t - 8) (schedule m 48) c → AreWordsFrom (t - 4) (schedule m 48) d
-            → AreWordsFrom t (schedule m 48) result }
+        → AreWordsFrom t (schedule m 48) result }
 {
     let sums = a + c.shuffle(d, [1, 2, 3, 4]) + small_sigma0_of(a.shuffle(b, [1, 2, 3, 4]));
     let low = sums + small_sigma1_of(d.swizzle([2, 3, 2, 3]));

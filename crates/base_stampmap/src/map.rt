@@ -148,8 +148,7 @@ impl<V: Drop, A: Allocator> StampMap<V, A> {
 
     /// A mutable reference to the value of a stamp, and `None` if it has none.
     pub fn get_mut(&mut self, stamp: Stamp) -> Option<&mut V>
-        ensures* writes_back { sem 𝓛 (LendsValueIf V.row A.row A.Allocator self.entry stamp result)
-            }
+        ensures* writes_back { sem 𝓛 (LendsValueIf V.row A.row A.Allocator self.entry stamp result) }
         ensures value { option_copied_mut result ≡ lookup (stamp_eq stamp) self.old }
     {
         self.get_mut_near(usize::MAX, stamp)
@@ -158,8 +157,7 @@ impl<V: Drop, A: Allocator> StampMap<V, A> {
     /// A mutable reference to the value of a stamp, and `None` if it has none. Looks first at an
     /// index, which `index_of` may have returned before.
     pub fn get_mut_near(&mut self, near: usize, stamp: Stamp) -> Option<&mut V>
-        ensures* writes_back { sem 𝓛 (LendsValueIf V.row A.row A.Allocator self.entry stamp result)
-            }
+        ensures* writes_back { sem 𝓛 (LendsValueIf V.row A.row A.Allocator self.entry stamp result) }
         ensures value { option_copied_mut result ≡ lookup (stamp_eq stamp) self.old }
     {
         match self.index_near(near, stamp) {

@@ -22,8 +22,7 @@ pub fn append_word<A: Allocator>(
     label: &str,
     word: &str,
 ) -> Result<(), AllocError>
-    ensures { OnOk result (string_bytes text.new ≡ string_bytes text.old ++ (label.now ++ word.now))
-        }
+    ensures { OnOk result (string_bytes text.new ≡ string_bytes text.old ++ (label.now ++ word.now)) }
 {
     text.push_str(label)?;
     text.push_str(word)

@@ -27,7 +27,7 @@ PrintedFrameIsRead = (rate frames : ℕ) → 1 ≤ rate → milliseconds rate fr
 pub record WholeMillisecondsStay : Type 0 where
   pub same_text : (each frames : ℕ) → 1 ≤ each
       → time_text (1000 * each) (nearest_frame (1000 * each)
-          (millis (milliseconds (1000 * each) frames))) ≡ time_text (1000 * each) frames
+      (millis (milliseconds (1000 * each) frames))) ≡ time_text (1000 * each) frames
   pub same_frame : (each ms : ℕ) → 1 ≤ each → nearest_frame (1000 * each)
       (millis (milliseconds (1000 * each) (ms * each))) ≡ ms * each
 

@@ -24,8 +24,11 @@ use Rattle.cli_calls.specs.Sources.{GaveWaves, GaveKept, HasSourceCause}
 
 -- the programme of a session over recordings
 abbrev pub programme : Session → List (List ℕ) → Format → Programme
-programme session texts layout = record { tracks = session.tracks; sources = sources_of texts;
-    layout = layout }
+programme session texts layout = record {
+  tracks = session.tracks;
+  sources = sources_of texts;
+  layout = layout;
+}
 
 -- the session of the union of the logs' sets
 abbrev pub session_of_logs : List LogMap → Session
@@ -47,7 +50,7 @@ IsMixRefusal session texts layout head fault =
     (fault ≢ mix.Memory)
     × (IsMixFault (programme session texts layout) fault
     ⊎ (IsMixable (programme session texts layout) × (fault ≡ mix.TooLong)
-        × (2 ^ 32 ≤ length (riff (programme session texts layout) session.markers head))))
+    × (2 ^ 32 ≤ length (riff (programme session texts layout) session.markers head))))
 
 -- `render`: the file of a session and recordings, or why there is none
 abbrev pub Renders : Format → HeadText → Session → List (List ℕ) → Result (List ℕ) CliFault → Type 0
@@ -87,8 +90,8 @@ module _ {R : Type 0} (remaining : R → Option (List ℕ)) where
       (UnionFails remaining before.logs after.logs fault × (after.sources ≡ before.sources))
       ⊎ ((logs : List LogMap)
       × (GaveLogs remaining before.logs logs × (AreRead remaining after.logs
-          × (AllAgree logs × HasSourceCause remaining (length before.logs) 0 before.sources
-          after.sources fault))))
+      × (AllAgree logs × HasSourceCause remaining (length before.logs) 0 before.sources
+      after.sources fault))))
 
   -- all readers are at their ends
   abbrev pub AreInputsRead : RenderInputs R → Type 0
@@ -99,4 +102,4 @@ module _ {R : Type 0} (remaining : R → Option (List ℕ)) where
   abbrev pub GaveMaterial : {A : Type 0} → RenderInputs R → Material A → Type 0
   GaveMaterial s m =
       (all : LogMap) × (GaveUnion remaining s.logs all × ((m.session ≡ session_of (operations all))
-          × GaveKept remaining (is_audible m.session.tracks) s.sources m.kept.items))
+      × GaveKept remaining (is_audible m.session.tracks) s.sources m.kept.items))

@@ -57,7 +57,7 @@ module _ {R : Type 0} (remaining : R → Option (List ℕ)) where
   LogAndWavesCause (log ∷ files) (log' ∷ files') fault =
       (IsCause remaining 0 log log' fault × (files' ≡ files))
       ⊎ ((m : LogMap) × (GaveLog remaining log m × (IsRead remaining log'
-          × HasSourceCause remaining 1 0 files files' fault)))
+      × HasSourceCause remaining 1 0 files files' fault)))
   LogAndWavesCause _ _ fault = ⊥
 
   -- Working definition: the first gave a log, whose session this is, and of the wave files of the

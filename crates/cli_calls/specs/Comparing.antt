@@ -81,7 +81,7 @@ module _ {R : Type 0} (remaining : R → Option (List ℕ)) where
   abbrev pub TwoLogsCause : List (Latch R) → List (Latch R) → CliFault → Type 0
   TwoLogsCause (left ∷ (right ∷ [])) (left' ∷ (right' ∷ [])) fault =
       (GaveNoLog 0 left left' fault × (right' ≡ right)) ⊎ ((m : LogMap)
-          × (GaveLogOf left m × (IsRead remaining left' × GaveNoLog 1 right right' fault)))
+      × (GaveLogOf left m × (IsRead remaining left' × GaveNoLog 1 right right' fault)))
   TwoLogsCause _ _ fault = ⊥
 
 -- ---- the result

@@ -33,7 +33,7 @@ ops_line count = number_line (codes "ops ") count
 abbrev pub EditMakes : Replica → LogMap → List ℕ → Result (List ℕ × List ℕ) CliFault → Type 0
 EditMakes name log text (Ok made) =
     (ops : List Op) × ((scripted log name text ≡ Ok ops)
-        × ((made.0 ≡ text_of (with_ops log ops)) × (made.1 ≡ ops_line (length ops))))
+    × ((made.0 ≡ text_of (with_ops log ops)) × (made.1 ≡ ops_line (length ops))))
 EditMakes name log text (Err (Script fault)) = (fault ≢ script.Memory)
     × (scripted log name text ≡ Err fault)
 EditMakes name log text (Err _) = ⊥

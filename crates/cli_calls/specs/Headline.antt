@@ -76,15 +76,15 @@ SameIsTold = (logs others : List LogMap) → HaveSame logs others → AllAgree l
 abbrev pub SameIsRendered : Type 0
 SameIsRendered =
     (logs others : List LogMap) (texts other_texts : List (List ℕ)) (layout : Format)
-        (head : HeadText) → HaveSame logs others → AllAgree logs
+    (head : HeadText) → HaveSame logs others → AllAgree logs
     → HearAlike (session_of_logs logs) texts other_texts
-        → RenderAlike (session_of_logs logs) (session_of_logs others) texts other_texts layout head
+    → RenderAlike (session_of_logs logs) (session_of_logs others) texts other_texts layout head
 
 -- Editors whose logs have the same operations lend one session.
 abbrev pub SameIsShown : Type 0
 SameIsShown =
     (a b : Editor) (log other : LogMap) → a.log ≡ Some log → b.log ≡ Some other
-        → HaveSame (log ∷ []) (other ∷ []) → session_in a ≡ session_in b
+    → HaveSame (log ∷ []) (other ∷ []) → session_in a ≡ session_in b
 
 -- A single log agrees with itself, and is its own union: so what is printed of it is printed of an
 -- editor that has it.

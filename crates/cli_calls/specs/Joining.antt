@@ -25,7 +25,7 @@ abbrev pub UnionFails : {R : Type 0} → (R → Option (List ℕ)) → List (Lat
     → CliFault → Type 0
 UnionFails remaining before after fault =
     HasCause remaining 0 before after fault ⊎ ((logs : List LogMap)
-        × (GaveLogs remaining before logs × (AreRead remaining after × AllFail logs fault)))
+    × (GaveLogs remaining before logs × (AreRead remaining after × AllFail logs fault)))
 
 -- why joining two logs fails
 abbrev pub JoinFails : LogMap → LogMap → CliFault → Type 0

@@ -21,8 +21,12 @@ use Rattle.cli_calls.specs.Sources.{GaveWave, IsSourceCause}
 
 -- the digest, rate and length of a recording, for a clip of all of it
 abbrev pub sound_of : List ℕ → Sound
-sound_of bytes = record { digest = record { 0 = sha256 bytes }; rate = rate_of bytes; frames =
-    frames_of bytes }
+sound_of bytes = record {
+  digest = record { 0 = sha256 bytes };
+  rate = rate_of bytes;
+  frames =
+      frames_of bytes;
+}
 
 -- the words of a script that add a clip of the whole recording to a track, at a position
 abbrev pub clip_words : List ℕ → ℕ → Sound → List ℕ
@@ -63,7 +67,7 @@ abbrev pub laid_from : Laying → ℕ → ℕ → List Sound → Result (List �
 laid_from l index at [] = Ok []
 laid_from l index at (s ∷ sounds) =
     unless_at_fault index (lay_fault l at s) (clip_line l.track.now at s)
-        (laid_from l (index + 1) (at + s.frames + l.gap) sounds)
+    (laid_from l (index + 1) (at + s.frames + l.gap) sounds)
 
 abbrev pub laid : Laying → List Sound → Result (List ℕ) CliFault
 laid l sounds = laid_from l 0 l.at sounds

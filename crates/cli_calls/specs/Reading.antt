@@ -41,8 +41,8 @@ FirstCause Ended Gives Cause index [] new fault = fault ≡ Memory
 FirstCause Ended Gives Cause index (latch ∷ latches) [] fault = ⊥
 FirstCause {L} {X} Ended Gives Cause index (latch ∷ latches) (after ∷ afters) fault =
     (Cause index latch after fault × (afters ≡ latches))
-        ⊎ ((x : X) × (Gives latch x × (Ended after × FirstCause Ended Gives Cause (index + 1)
-        latches afters fault)))
+    ⊎ ((x : X) × (Gives latch x × (Ended after × FirstCause Ended Gives Cause (index + 1)
+    latches afters fault)))
 
 module _ {R : Type 0} (remaining : R → Option (List ℕ)) where
   -- these bytes are all that the reader had left, if that is known
@@ -127,5 +127,5 @@ module _ {R : Type 0} (remaining : R → Option (List ℕ)) where
   abbrev pub BothCause : List (Latch R) → List (Latch R) → CliFault → Type 0
   BothCause (log ∷ (other ∷ [])) (log' ∷ (other' ∷ [])) fault =
       (IsCause 0 log log' fault × (other' ≡ other)) ⊎ ((m : LogMap)
-          × (GaveLog log m × (IsRead log' × (IsReadCause 1 other' fault × IsRest other other'))))
+      × (GaveLog log m × (IsRead log' × (IsReadCause 1 other' fault × IsRest other other'))))
   BothCause _ _ fault = ⊥

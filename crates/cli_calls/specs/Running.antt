@@ -27,7 +27,7 @@ abbrev pub NotDone : {I O X : Type 0} → (I → X → Type 0) → (I → I → 
 NotDone {I} {O} {X} Given Cause AtEnd Fails before after fault =
     (Cause before.inputs after.inputs fault × (after.output ≡ before.output))
     ⊎ ((x : X) × (Given before.inputs x × (AtEnd after.inputs
-        × Fails x before.output after.output fault)))
+    × Fails x before.output after.output fault)))
 
 -- A command has run.
 pub record RanOn {I W X : Type 0} (Given : I → X → Type 0) (Cause : I → I → CliFault → Type 0)
@@ -50,8 +50,8 @@ pub record RanOn {I W X : Type 0} (Given : I → X → Type 0) (Cause : I → I 
 abbrev pub Ran : {R W X : Type 0} → (R → Option (List ℕ)) → (List (Latch R) → X → Type 0)
     → (List (Latch R) → List (Latch R) → CliFault → Type 0)
     → (X → Result (List ℕ) CliFault → Type 0) → (W → Option (List ℕ))
-        → Lent (List (Latch R)) (Latch W) → Lent (List (Latch R)) (Latch W)
-        → Result (Unit {0}) CliFault → Type 0
+    → Lent (List (Latch R)) (Latch W) → Lent (List (Latch R)) (Latch W)
+    → Result (Unit {0}) CliFault → Type 0
 Ran remaining Given Cause Makes contents before after result = RanOn Given Cause (AreRead remaining)
     Makes contents before after result
 
@@ -60,8 +60,8 @@ pub record RanAndPrinted {R W T X : Type 0} (remaining : R → Option (List ℕ)
     (Given : List (Latch R) → X → Type 0) (Cause : List (Latch R) → List (Latch R) → CliFault
     → Type 0)
     (Makes : X → Result (List ℕ × List ℕ) CliFault → Type 0) (contents : W → Option (List ℕ))
-        (prints : T → Option (List ℕ)) (before after : Lent (List (Latch R)) (Outputs W T))
-        (result : Result (Unit {0}) CliFault) : Type 0 where
+    (prints : T → Option (List ℕ)) (before after : Lent (List (Latch R)) (Outputs W T))
+    (result : Result (Unit {0}) CliFault) : Type 0 where
   -- If it returns Ok, the inputs gave a value, the bytes that are made from it were written, then
   -- the text was printed, and nothing else.
   pub written : OnOk result (Done Given (λ x. BothWritten contents prints (Makes x)) before after)

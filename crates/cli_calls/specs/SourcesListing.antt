@@ -55,8 +55,8 @@ module _ {R : Type 0} (remaining : R → Option (List ℕ)) where
   abbrev pub ListedCause : List (Latch R) → List (Latch R) → CliFault → Type 0
   ListedCause (log ∷ files) (log' ∷ files') fault =
       (IsCause remaining 0 log log' fault × (files' ≡ files))
-          ⊎ ((m : LogMap) × (GaveLog remaining log m × (IsRead remaining log'
-          × HasFileCause files files' fault)))
+      ⊎ ((m : LogMap) × (GaveLog remaining log m × (IsRead remaining log'
+      × HasFileCause files files' fault)))
   ListedCause _ _ fault = ⊥
 
 -- `sources`: the text about the recordings that the log's session names, and about these files

@@ -75,8 +75,13 @@ pub record TalkLent (R W O : Type 0) : Type 0 where
 
 abbrev pub lent_talk : {R W O : Type 0} → Option LogMap → Latch R → Latch W → Latch O
     → TalkLent R W O
-lent_talk set reader writer output = record { set = set; reader = reader; writer = writer; output =
-    output }
+lent_talk set reader writer output = record {
+  set = set;
+  reader = reader;
+  writer = writer;
+  output =
+      output;
+}
 
 module _ {R W O : Type 0} (remaining : R → Option (List ℕ)) (written : W → Option (List ℕ))
     (contents : O → Option (List ℕ)) (side : Side) (before after : TalkLent R W O) where
@@ -85,7 +90,7 @@ module _ {R W O : Type 0} (remaining : R → Option (List ℕ)) (written : W →
   abbrev pub HasConversedTo : Option LogMap → Result (Unit {0}) SyncFault → Type 0
   HasConversedTo set answer =
       ConversesAs side (conversant before.set (remaining before.reader.inner)
-          (written before.writer.inner))
+      (written before.writer.inner))
       (conversant set (remaining after.reader.inner) (written after.writer.inner)) answer
 
   abbrev pub HasConversed : Result (Unit {0}) SyncFault → Type 0

@@ -72,8 +72,8 @@ module _ {W T : Type 0} (contents : W → Option (List ℕ)) (prints : T → Opt
       → Type 0
   BothWritten Makes old new =
       (bytes : List ℕ) × ((text : List ℕ) × (Makes (Ok (bytes, text))
-          × (HasWritten contents bytes old.output new.output
-          × HasWritten prints text old.printed new.printed)))
+      × (HasWritten contents bytes old.output new.output
+      × HasWritten prints text old.printed new.printed)))
 
   -- The result is a fault, or memory ran out, each with both outputs unchanged; or the first output
   -- has failed, and nothing was printed; or the bytes were written, and the second output has
@@ -83,11 +83,11 @@ module _ {W T : Type 0} (contents : W → Option (List ℕ)) (prints : T → Opt
   BothFail Makes old new Memory = new ≡ old
   BothFail Makes old new Write =
       (bytes : List ℕ) × ((text : List ℕ) × (Makes (Ok (bytes, text))
-          × (HasFailed contents bytes old.output new.output × (new.printed ≡ old.printed))))
+      × (HasFailed contents bytes old.output new.output × (new.printed ≡ old.printed))))
   BothFail Makes old new Print =
       (bytes : List ℕ) × ((text : List ℕ) × (Makes (Ok (bytes, text))
-          × (HasWritten contents bytes old.output new.output
-          × HasFailed prints text old.printed new.printed)))
+      × (HasWritten contents bytes old.output new.output
+      × HasFailed prints text old.printed new.printed)))
   BothFail Makes old new fault = Makes (Err fault) × (new ≡ old)
 
 -- The result was written and printed, or why it was not.

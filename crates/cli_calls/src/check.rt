@@ -81,7 +81,7 @@ fn check_session<A: Allocator + Clone, W: Write>(
 ) -> Result<(), CliFault>
     ensures { Wrote W.contents
         (ChecksSession form format head.now session.now
-            (operations log.now) kept.now) output.old output.new result }
+        (operations log.now) kept.now) output.old output.new result }
 {
     let catalogue = catalogue_of(alloc.clone()?, kept)?;
     let mix = match Mix::new(alloc.clone()?, session, &catalogue, format) {
@@ -148,7 +148,7 @@ pub fn check_log<A: Allocator + Clone, R: Read, W: Write>(
     requires some { 1 ≤ length inputs.old }
     ensures { Ran R.remaining (GaveLogAndWaves R.remaining) (LogAndWavesCause R.remaining)
         (Checks form format head.now) W.contents (lent inputs.old output.old)
-            (lent inputs.new output.new) result }
+        (lent inputs.new output.new) result }
 {
     let check = Check { form, head, format };
     run(&LogThenRecordings, &check, alloc, inputs, output)

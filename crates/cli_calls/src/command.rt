@@ -68,7 +68,7 @@ where
     requires fits { I.fits from.now R inputs.old }
     ensures { Ran R.remaining (I.given from.now R R.remaining) (I.cause from.now R R.remaining)
         (C.makes command.now) W.contents (lent inputs.old output.old)
-            (lent inputs.new output.new) result }
+        (lent inputs.new output.new) result }
 {
     match from.read_from(&alloc, inputs) {
         Ok(value) => command.write_value(alloc, value, output),
@@ -136,7 +136,7 @@ where
     ensures { RanAndPrinted R.remaining (I.given from.now R R.remaining)
         (I.cause from.now R R.remaining)
         (C.makes command.now) W.contents T.contents (lent inputs.old
-            (outputs output.old printed.old))
+        (outputs output.old printed.old))
         (lent inputs.new (outputs output.new printed.new)) result }
 {
     let value = match from.read_from(&alloc, inputs) {

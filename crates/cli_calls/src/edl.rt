@@ -33,10 +33,7 @@ pub struct EdlOptions<'a> {
 }
 
 // The track of this number, counted from 1.
-fn track_numbered<A: Allocator>(
-    number: usize,
-    tracks: &[TrackView<A>],
-) -> Option<&TrackView<A>>
+fn track_numbered<A: Allocator>(number: usize, tracks: &[TrackView<A>]) -> Option<&TrackView<A>>
     ensures { option_map (λ t. t.now) result ≡ track_numbered number tracks.now }
 {
     if number == 0 {

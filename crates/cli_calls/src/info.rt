@@ -152,8 +152,7 @@ fn put_cue<W: Write>(output: &mut BufferedLatch<'_, W>, cue: &Cue<'_>)
 // Puts the lines of cues, in order.
 #[tactic(auto, using(base_io::proofs::Putting::puts_none))]
 fn put_cues<W: Write>(output: &mut BufferedLatch<'_, W>, cues: &[Cue<'_>])
-    ensures { Puts W.contents output.old output.new (flat_map (λ c. cue_line (cue_text c)) cues.now)
-        }
+    ensures { Puts W.contents output.old output.new (flat_map (λ c. cue_line (cue_text c)) cues.now) }
 {
     for cue in cues {
         put_cue(output, cue);

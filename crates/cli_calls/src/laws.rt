@@ -77,7 +77,7 @@ pub fn view_logs<R: Read, W: Write>()
     ensures { (before after : Lent (List (LatchValue R)) (LatchValue W))
         (result : Result (Unit {0}) Fault)
         → Ran R.remaining (GaveUnion R.remaining) (UnionFails R.remaining) (Prints log_view)
-            W.contents before after result
+        W.contents before after result
         → WritesUnion R.remaining W.contents log_view before after result }
 {}
 
@@ -88,7 +88,7 @@ pub fn merge_logs<R: Read, W: Write>()
     ensures { (before after : Lent (List (LatchValue R)) (LatchValue W))
         (result : Result (Unit {0}) Fault)
         → Ran R.remaining (GaveUnion R.remaining) (UnionFails R.remaining) (Prints text_of)
-            W.contents before after result
+        W.contents before after result
         → WritesUnion R.remaining W.contents text_of before after result }
 {}
 
@@ -101,7 +101,7 @@ pub fn bounce_logs<R: Read, W: Write>()
         (LatchValue W))
         (result : Result (Unit {0}) Fault)
         → RanOn (GaveLogsAndWaves R.remaining) (RenderCause R.remaining) (AreInputsRead R.remaining)
-            (RendersLogs layout head)
+        (RendersLogs layout head)
         W.contents before after result
         → WritesFile R.remaining W.contents layout head before after result }
 {}

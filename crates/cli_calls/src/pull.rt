@@ -185,7 +185,7 @@ pub fn pull_logs<A: Allocator + Clone, R: Read, W: Write, T: Write>(
     ensures { RanAndPrinted R.remaining (GaveAll {Z = A} R.remaining) (HasCause R.remaining 0)
         (Pulls (map (λ n. n.now) names.now)) W.contents T.contents
         (lent inputs.old (outputs output.old printed.old)) (lent inputs.new
-            (outputs output.new printed.new)) result }
+        (outputs output.new printed.new)) result }
 {
     run_and_print(&EachLog, &Pull { names }, alloc, inputs, output, printed)
 }

@@ -117,7 +117,7 @@ pub fn bounce_logs<A: Allocator + Clone, R: Read, W: Write>(
     ensures { RanOn (GaveLogsAndWaves R.remaining) (RenderCause R.remaining)
         (AreInputsRead R.remaining)
         (RendersLogs format head.now) W.contents (lent
-            (render_inputs logs.old sources.old) output.old)
+        (render_inputs logs.old sources.old) output.old)
         (lent (render_inputs logs.new sources.new) output.new) result }
 {
     match read_material(&alloc, logs, sources) {

@@ -178,7 +178,7 @@ pub fn list_sources<A: Allocator + Clone, R: Read, W: Write>(
     requires named { length inputs.old ≡ 1 + length names.now }
     ensures { Ran R.remaining (GaveListed R.remaining {A = A}) (ListedCause R.remaining)
         (Prints (sources_in form which (map (λ n. n.now) names.now))) W.contents
-            (lent inputs.old output.old)
+        (lent inputs.old output.old)
         (lent inputs.new output.new) result }
 {
     run(

@@ -44,8 +44,7 @@ pub(crate) fn read_source<A: Allocator, R: Read>(
 ) -> Result<Vec<u8, A>, CliFault>
     requires few { others + index < 2 ^ 64 }
     ensures read { OnOk result (IsRead R.remaining input.new) }
-    ensures ok { IfOk result (λ bytes. Gave R.remaining input.old bytes.items × IsWave bytes.items)
-        }
+    ensures ok { IfOk result (λ bytes. Gave R.remaining input.old bytes.items × IsWave bytes.items) }
     ensures rest { IsRest R.remaining input.old input.new }
     ensures err { IfErr result (IsSourceCause R.remaining others index input.old input.new) }
 {

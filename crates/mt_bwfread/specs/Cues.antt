@@ -113,8 +113,12 @@ pub record CueText : Type 0 where
 
 -- the cue of a point, with the first length and the first label of its name
 unfoldable pub cue_of : List (Named ℕ) → List (Named (List ℕ)) → Point → CueText
-cue_of lengths labels p = record { name = p.name; at = p.at; length = first_for p.name lengths;
-    label = first_for p.name labels }
+cue_of lengths labels p = record {
+  name = p.name;
+  at = p.at;
+  length = first_for p.name lengths;
+  label = first_for p.name labels;
+}
 
 -- the cues of a wave file
 unfoldable pub cues_of : List ℕ → List CueText

@@ -7,7 +7,7 @@ use Rattle.byteorder.specs.Endian.{little_bytes}
 abbrev pub smallest_format : List ℕ
 smallest_format =
     little_bytes 2 1 ++ little_bytes 2 1 ++ little_bytes 4 44100 ++ little_bytes 4 44100
-        ++ little_bytes 2 1
+    ++ little_bytes 2 1
     ++ little_bytes 2 8
 
 abbrev pub smallest : List ℕ

@@ -151,4 +151,4 @@ scaled bits bytes =
 unfoldable pub sample_of : List ℕ → ℕ → ℕ → ℤ
 sample_of text frame channel =
     scaled (bits_of text) (drop ((frame * channels_of text + channel) * width_of text)
-        (samples_of text))
+    (samples_of text))

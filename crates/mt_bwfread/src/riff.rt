@@ -44,8 +44,7 @@ impl<'a> Part<'a> {
     #[tactic(auto, unfolding(crate::specs::Riff::content_of))]
     pub(crate) fn unless(self, earlier: Option<&'a [u8]>, id: &[u8]) -> Option<&'a [u8]>
         ensures { option_copied result
-            ≡ option_or (option_copied earlier.entry) (content_of id.now (chunk_at self.entry ∷ []))
-                }
+            ≡ option_or (option_copied earlier.entry) (content_of id.now (chunk_at self.entry ∷ [])) }
     {
         match earlier {
             Some(content) => Some(content),

@@ -76,7 +76,7 @@ module _ {K : Type 0} {R : K → K → Ordering} (o : IsTotalOrder R) where
           ∙ sym (ap (greater R a) (of_equal b c f) ∙ of_greater a b e)
       by Greater Greater e f =
           ap (λ (x : K). greater R x c) (of_greater a b e) ∙ of_greater a c
-              (turned c a Less (o.trans c b a (back b c f) (back a b e)))
+          (turned c a Less (o.trans c b a (back b c f) (back a b e)))
           ∙ sym (ap (greater R a) (of_greater b c f) ∙ of_greater a b e)
 
   pub greater_associates : (a b c : K) → IsTrue (eq_by_cmp R (greater R (greater R a b) c)

@@ -56,7 +56,7 @@ union_commutative : (s t : Stamps) → set.union s t ≡ set.union t s
 union_commutative s t =
     same_set (set.union s t) (set.union t s)
     (λ stamp. contains-union s t stamp ∙ either_way (set.contains s stamp) (set.contains t stamp)
-        ∙ sym (contains-union t s stamp))
+    ∙ sym (contains-union t s stamp))
 
 union_associative : (s t u : Stamps) → set.union (set.union s t) u ≡ set.union s (set.union t u)
 union_associative s t u =
@@ -98,9 +98,9 @@ pub marks_are : (a b : Presence) → IsTrue (same_marks a b) → a ≡ b
 marks_are a b same =
     same_record a b
     (stamps_are a.tags b.tags (first (same_stamps a.tags b.tags) (same_stamps a.removed b.removed)
-        same))
+    same))
     (stamps_are a.removed b.removed (second (same_stamps a.tags b.tags)
-        (same_stamps a.removed b.removed) same))
+    (same_stamps a.removed b.removed) same))
 
 pub same_marks-itself : (a : Presence) → IsTrue (same_marks a a)
 same_marks-itself a = both (same_stamps a.tags a.tags) (same_stamps a.removed a.removed)
@@ -116,14 +116,14 @@ pub together_commutative : (a b : Presence) → IsTrue (same_marks (together a b
 together_commutative a b =
     same_marks-of (together a b) (together b a)
     (same_record (together a b) (together b a) (union_commutative a.tags b.tags)
-        (union_commutative a.removed b.removed))
+    (union_commutative a.removed b.removed))
 
 pub together_associative : (a b c : Presence) → IsTrue
     (same_marks (together (together a b) c) (together a (together b c)))
 together_associative a b c =
     same_marks-of (together (together a b) c) (together a (together b c))
     (same_record (together (together a b) c) (together a (together b c))
-        (union_associative a.tags b.tags c.tags) (union_associative a.removed b.removed c.removed))
+    (union_associative a.tags b.tags c.tags) (union_associative a.removed b.removed c.removed))
 
 pub together_idempotent : (a : Presence) → IsTrue (same_marks (together a a) a)
 together_idempotent a = same_marks-of (together a a) a
@@ -133,4 +133,4 @@ pub together_respects : (a b c d : Presence) → IsTrue (same_marks a b) → IsT
     → IsTrue (same_marks (together a c) (together b d))
 together_respects a b c d ab cd =
     same_marks-of (together a c) (together b d) (λ i. together (marks_are a b ab i)
-        (marks_are c d cd i))
+    (marks_are c d cd i))

@@ -53,8 +53,10 @@ impl<A: Allocator> Presence<A> {
     pub fn add_tag(&mut self, stamp: Stamp) -> Result<(), CellFault>
     where
         A: Clone,
-        ensures tagged { OnOk result (self.new ≡ record { tags = set.insert self.old.tags stamp;
-            removed = self.old.removed }) }
+        ensures tagged { OnOk result (self.new ≡ record {
+          tags = set.insert self.old.tags stamp;
+          removed = self.old.removed;
+        }) }
         ensures kept { OnErr result (self.new ≡ self.old) }
     {
         self.tags.insert(&self.alloc, stamp)
@@ -65,8 +67,11 @@ impl<A: Allocator> Presence<A> {
     pub fn remove_tag(&mut self, stamp: Stamp) -> Result<(), CellFault>
     where
         A: Clone,
-        ensures removed { OnOk result (self.new ≡ record { tags = self.old.tags; removed =
-            set.insert self.old.removed stamp }) }
+        ensures removed { OnOk result (self.new ≡ record {
+          tags = self.old.tags;
+          removed =
+              set.insert self.old.removed stamp;
+        }) }
         ensures kept { OnErr result (self.new ≡ self.old) }
     {
         self.removed.insert(&self.alloc, stamp)

@@ -292,8 +292,7 @@ fn named<'a>(alloc: Global) -> Result<Command<'a>, AllocError> {
     )
 }
 
-const AFTER_HELP: &str =
-    "Example: radio pull desk.log home.log\n\
+const AFTER_HELP: &str = "Example: radio pull desk.log home.log\n\
         \n\
         Exit status: 0 done; 1 failed (`radio: fault N`, see `radio explain N`); 2 wrong command \
         line.";

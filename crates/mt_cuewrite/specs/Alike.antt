@@ -18,5 +18,5 @@ pub record WriteAlike (p q : Programme) (ms : List Marker) (h : HeadText) : Type
 abbrev pub OnlyAudibleAreWritten : Type 0
 OnlyAudibleAreWritten =
     (tracks : List Track) (layout : Format) (a b : Sources) (ms : List Marker) (h : HeadText)
-        → FindAlike tracks a b
+    → FindAlike tracks a b
     → WriteAlike (over tracks layout a) (over tracks layout b) ms h

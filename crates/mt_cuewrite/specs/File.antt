@@ -58,7 +58,7 @@ block_align l = l.channels * (l.bits / 8)
 unfoldable pub format : Format → List ℕ
 format l =
     little_bytes 2 1 ++ little_bytes 2 l.channels ++ little_bytes 4 l.rate
-        ++ little_bytes 4 (l.rate * block_align l)
+    ++ little_bytes 4 (l.rate * block_align l)
     ++ little_bytes 2 (block_align l) ++ little_bytes 2 l.bits
 
 -- ---- data

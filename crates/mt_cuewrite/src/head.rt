@@ -25,13 +25,24 @@ impl<'h> Model for Head<'h> {
 
     ghost Value = { HeadText };
 
-    ghost view = { λ h. record { description = h.description.now; originator = h.originator.now;
-        reference = h.reference.now; date = h.date.now; time = h.time.now;
-            time_reference = h.time_reference } };
+    ghost view = { λ h. record {
+      description = h.description.now;
+      originator = h.originator.now;
+      reference = h.reference.now;
+      date = h.date.now;
+      time = h.time.now;
+      time_reference = h.time_reference;
+    } };
 
-    ghost invariant = { λ h. bad_text (record { description = h.description.now; originator =
-        h.originator.now; reference = h.reference.now; date = h.date.now; time = h.time.now;
-        time_reference = h.time_reference }) ≡ None };
+    ghost invariant = { λ h. bad_text (record {
+      description = h.description.now;
+      originator =
+          h.originator.now;
+      reference = h.reference.now;
+      date = h.date.now;
+      time = h.time.now;
+      time_reference = h.time_reference;
+    }) ≡ None };
 }
 
 // Whether a byte is a printing character of ASCII, or a space.
@@ -97,13 +108,25 @@ impl<'h> Head<'h> {
         time: &'h str,
         time_reference: u64,
     ) -> Result<Head<'h>, HeadFault>
-        ensures value { IfOk result (λ h. h ≡ record { description = description.now; originator =
-            originator.now; reference = reference.now; date = date.now; time = time.now;
-                time_reference = time_reference }) }
+        ensures value { IfOk result (λ h. h ≡ record {
+          description = description.now;
+          originator =
+              originator.now;
+          reference = reference.now;
+          date = date.now;
+          time = time.now;
+          time_reference = time_reference;
+        }) }
         ensures ok { IfOk result (λ h. bad_text h ≡ None) }
-        ensures err { IfErr result (IsBadHead (record { description = description.now; originator =
-            originator.now; reference = reference.now; date = date.now; time = time.now;
-                time_reference = time_reference })) }
+        ensures err { IfErr result (IsBadHead (record {
+          description = description.now;
+          originator =
+              originator.now;
+          reference = reference.now;
+          date = date.now;
+          time = time.now;
+          time_reference = time_reference;
+        })) }
     {
         let bad = if !is_text(256, description) {
             1

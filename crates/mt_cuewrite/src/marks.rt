@@ -69,11 +69,7 @@ pub(crate) fn label_size<A: Allocator>(marker: &MarkerView<A>) -> u32
 }
 
 // Writes the content of the label with this name.
-#[tactic(
-    auto,
-    using(base_io::proofs::Putting::then_puts),
-    unfolding(crate::specs::File::label_content)
-)]
+#[tactic(auto, using(base_io::proofs::Putting::then_puts), unfolding(crate::specs::File::label_content))]
 fn put_label_content<A: Allocator, W: Write>(
     output: &mut BufferedLatch<'_, W>,
     name: u32,
@@ -173,8 +169,7 @@ fn put_regions<A: Allocator, W: Write>(
     markers: &[MarkerView<A>],
 )
     requires few { length (before end markers.now) < 2 ^ 31 }
-    ensures { Puts W.contents output.old output.new (named (region end) 1 (before end markers.now))
-        }
+    ensures { Puts W.contents output.old output.new (named (region end) 1 (before end markers.now)) }
 {
     let mut name = FIRST;
     for marker in markers {

@@ -33,8 +33,11 @@ module _ {T R : Type 0} (rules : Rules T R) where
 
   -- the contents with one more waiting item
   abbrev pub with_queued : Contents T → T → Contents T
-  with_queued contents t = record { released = contents.released; waiting = queued t
-      contents.waiting }
+  with_queued contents t = record {
+    released = contents.released;
+    waiting = queued t
+        contents.waiting;
+  }
 
   -- all items that were offered, with one more
   abbrev pub offered_with : Contents T → T → List T

@@ -25,8 +25,10 @@ module _ {T R : Type 0} (rules : Rules T R) where
     -- The result: the item is held, or the released items from an index on are new.
     pub answered : IfOk result (λ offered. offered ≡ answer before.contents t)
     -- The items that it makes ready are released, and the rest waits.
-    pub kept : OnOk result (after ≡ record { contents = contents_with rules before.contents t;
-        failed = false })
+    pub kept : OnOk result (after ≡ record {
+      contents = contents_with rules before.contents t;
+      failed = false;
+    })
     -- The items that it makes ready rise by key.
     pub rising : OnOk result (KeysRise rules (newly_ready rules before.contents t))
     -- It fails with `Failed` if and only if the hold-back had failed, which changes nothing.

@@ -12,5 +12,8 @@ module _ {T R : Type 0} (rules : Rules T R) where
 
   -- the contents after a pass over the waiting items
   abbrev pub after_pass : Contents T → Contents T
-  after_pass contents = record { released = passed rules contents.released contents.waiting; waiting
-      = left contents.released contents.waiting }
+  after_pass contents = record {
+    released = passed rules contents.released contents.waiting;
+    waiting
+        = left contents.released contents.waiting;
+  }

@@ -165,12 +165,12 @@ module _ {T R : Type 0} (rules : Rules T R) where
 
   -- A ready item was taken out of the queue.
   pub record TakenOut {A : Type 0} (released : List T) (before after : Queue T A) (t : T) : Type 0
-      where
-    -- It is the first that a pass takes.
-    pub takes : Takes released t (items_of before.items.entries) (items_of after.items.entries)
-    -- No other item has its key, and one item less waits.
-    pub apart : IsApart released after t
-    pub shorter : length after.items.entries < length before.items.entries
+    where
+      -- It is the first that a pass takes.
+      pub takes : Takes released t (items_of before.items.entries) (items_of after.items.entries)
+      -- No other item has its key, and one item less waits.
+      pub apart : IsApart released after t
+      pub shorter : length after.items.entries < length before.items.entries
 
   -- The items to examine were examined, up to the next ready one.
   pub record NextIs {A : Type 0} (released : List T) (before after : Queue T A) (next : Option T) :

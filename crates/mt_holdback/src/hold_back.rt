@@ -36,8 +36,11 @@ impl<T: Waits, A: Allocator> Model for HoldBack<T, A> {
 
     ghost Value = { HoldBackValue T };
 
-    ghost view = { λ h. record { contents = contents_of h.released.items h.waiting; failed =
-        h.failed } };
+    ghost view = { λ h. record {
+      contents = contents_of h.released.items h.waiting;
+      failed =
+          h.failed;
+    } };
 
     ghost invariant = { λ h. InOrder T.rules h.released.items h.waiting };
 }

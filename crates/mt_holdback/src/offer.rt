@@ -87,8 +87,7 @@ fn admit<T: Waits + Drop, A: Allocator + Clone>(
     is_met: bool,
 ) -> Result<(), HoldBackFault>
     requires order { InOrder T.rules released.old.items (Some queue.old) }
-    requires offer { MayOffer T.rules (contents_of released.old.items (Some queue.old)) item is_met
-        }
+    requires offer { MayOffer T.rules (contents_of released.old.items (Some queue.old)) item is_met }
     ensures { OnOk result (Admitted T.rules (contents_of released.old.items (Some queue.old)) item
         released.new.items queue.new) }
 {

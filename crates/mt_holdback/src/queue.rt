@@ -167,7 +167,7 @@ fn keys_under<A: Allocator + Clone>(
         → list_any (stamp_eq q) keys.items ≡ true) }
     ensures others { OnOk result ((s : Stamp)
         → get stamp_cmp lacking.new s ≡ cond (is_eq (stamp_cmp stamp s)) None
-            (get stamp_cmp lacking.old s)) }
+        (get stamp_cmp lacking.old s)) }
 {
     match lacking.remove(&stamp) {
         Some(keys) => Ok(keys),
@@ -185,8 +185,7 @@ pub(crate) fn put_under<A: Allocator + Clone>(
     ensures stay { OnOk result ((s q : Stamp) → listed (λ v. v.items) (get stamp_cmp lacking.old) s
         q ≡ true
         → listed (λ v. v.items) (get stamp_cmp lacking.new) s q ≡ true) }
-    ensures there { OnOk result (listed (λ v. v.items) (get stamp_cmp lacking.new) stamp key ≡ true)
-        }
+    ensures there { OnOk result (listed (λ v. v.items) (get stamp_cmp lacking.new) stamp key ≡ true) }
 {
     let mut keys = keys_under(alloc, lacking, stamp)?;
     keys.push(key)?;
@@ -236,7 +235,7 @@ fn next_woken<A: Allocator>(woken: &mut BTreeSet<Stamp, A>) -> Option<Stamp>
         → is_gt (stamp_cmp key q) ≡ false) }
     ensures removed { IfSome result (λ key. (q : Stamp)
         → contains stamp_cmp woken.new q ≡ cond (is_eq (stamp_cmp key q)) false
-            (contains stamp_cmp woken.old q)) }
+        (contains stamp_cmp woken.old q)) }
     ensures fewer { IfSome result (λ _. length woken.new.keys < length woken.old.keys) }
     ensures unchanged { IfNone result (woken.new.keys ≡ woken.old.keys) }
     ensures empty { IfNone result (length woken.old.keys ≡ 0) }

@@ -84,11 +84,11 @@ act_of_fields-fields_of _ = refl
 abbrev pub fields_code : Coded Fields
 fields_code =
     coded⊎ (coded⊎ (coded× (coded_option stamp_code) text_code)
-        (coded× stamp_code (coded_option stamp_code)))
+    (coded× stamp_code (coded_option stamp_code)))
     (coded⊎ (coded⊎ (coded× digest_code (coded× stamp_code
-        (coded× coded_ℕ (coded× coded_ℕ coded_ℕ))))
-        (coded⊎ (coded× stamp_code (coded× stamp_code coded_ℕ))
-        (coded× stamp_code (coded× coded_ℕ coded_ℕ))))
+    (coded× coded_ℕ (coded× coded_ℕ coded_ℕ))))
+    (coded⊎ (coded× stamp_code (coded× stamp_code coded_ℕ))
+    (coded× stamp_code (coded× coded_ℕ coded_ℕ))))
     (coded⊎ (coded⊎ (coded× stamp_code ratio_code) (coded× stamp_code coded_bool))
     (coded⊎ (coded× stamp_code (coded_list stamp_code))
     (coded⊎ stamp_code

@@ -95,7 +95,7 @@ pub(crate) fn joined_runs<A: Allocator + Clone>(
     ensures ok { IfOk result (λ runs. Agree (log_of (run_ops left.items))
         (log_of (run_ops right.items))
         × (log_of (run_ops runs.items) ≡ union (log_of (run_ops left.items))
-            (log_of (run_ops right.items)))) }
+        (log_of (run_ops right.items)))) }
     ensures err { IfErr result (MergeFails (log_of (run_ops left.items))
         (log_of (run_ops right.items))) }
 {

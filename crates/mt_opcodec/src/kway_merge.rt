@@ -126,8 +126,7 @@ fn add_lists<A: Allocator + Clone>(
     lists: Vec<VecDeque<Op<A>, A>, A>,
 ) -> Result<(), LogFault>
     requires one_each { HaveOneEach log.old (list_map (λ l. l.items) lists.items) }
-    ensures ok { OnOk result (HaveTheSame log.old (list_map (λ l. l.items) lists.items) log.new [])
-        }
+    ensures ok { OnOk result (HaveTheSame log.old (list_map (λ l. l.items) lists.items) log.new []) }
     ensures err { IfErr result (λ fault. fault ≡ LogFault.Memory) }
 {
     let mut rest = VecDeque::from(lists);

@@ -51,8 +51,7 @@ fn record_of<A: Allocator>(
     last: Option<Dot>,
     bytes: &[u8],
 ) -> Result<(Op<A>, &[u8]), LogFault>
-    ensures { LogGives (λ x. (x.0, x.1.now)) result (record_of index last (op_at version bytes.now))
-        }
+    ensures { LogGives (λ x. (x.0, x.1.now)) result (record_of index last (op_at version bytes.now)) }
 {
     match op_of(alloc, version, bytes) {
         Ok((op, rest)) => {
@@ -76,8 +75,7 @@ pub fn read_ops<A: Allocator + Clone>(
     count: u64,
     bytes: &[u8],
 ) -> Result<Vec<Op<A>, A>, LogFault>
-    ensures { LogGives (λ ops. ops.items) result (records_at newest_version count 0 None bytes.now)
-        }
+    ensures { LogGives (λ ops. ops.items) result (records_at newest_version count 0 None bytes.now) }
 {
     let mut ops = Vec::new(alloc.clone()?);
     let mut last = None;

@@ -250,8 +250,7 @@ fn put_retitle<A: Allocator, B: Allocator>(
     item: &Stamp,
     title: &Title<B>,
 ) -> Result<(), AllocError>
-    ensures { OnOk result (out.new.items ≡ out.old.items ++ act_bytes (Retitle item.now title.now))
-        }
+    ensures { OnOk result (out.new.items ≡ out.old.items ++ act_bytes (Retitle item.now title.now)) }
 {
     out.push(12)?;
     put_stamp(out, item)?;

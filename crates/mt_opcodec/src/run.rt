@@ -96,8 +96,7 @@ impl<A: Allocator> Run<A> {
 
     // The run of one operation, in an allocation of exactly its size.
     pub(crate) fn of(alloc: A, op: Op<A>) -> Result<Self, AllocError>
-        ensures ok { IfOk result (λ run. run ≡ record { replica = op.stamp.replica; ops = op ∷ [] })
-            }
+        ensures ok { IfOk result (λ run. run ≡ record { replica = op.stamp.replica; ops = op ∷ [] }) }
         ensures is_run { IfOk result IsRun }
     {
         let replica = op.dot().replica;

@@ -7,8 +7,12 @@ use Rattle.mt_overlap.specs.declared.span.Segment.{Segment}
 
 -- the span and the segment at an index within the list
 abbrev pub span_at : List Span → ℕ → Span
-span_at spans i = slice_index_or spans i (record { place = record
-    { clock = 0; replica = record { 0 = 0 }; seq = 0 }; start = 0; len = 0 })
+span_at spans i = slice_index_or spans i (record {
+  place = record
+      { clock = 0; replica = record { 0 = 0 }; seq = 0 };
+  start = 0;
+  len = 0;
+})
 
 abbrev pub segment_at : List Segment → ℕ → Segment
 segment_at segments k = slice_index_or segments k (record { start = 0; end = 0; which = 0 })

@@ -16,9 +16,20 @@ abbrev pub nowhere : Stamp
 nowhere = record { clock = 0; replica = record { 0 = 0 }; seq = 0 }
 
 abbrev pub clip_at : List Clip → ℕ → Clip
-clip_at clips i = slice_index_or clips i (record { clip = nowhere; place = nowhere; at = 0; offset =
-    0; len = 0; gain = record { num = 0; den = 1 }; mute = false; fade_in = 0; fade_out = 0; source
-    = record { 0 = [] } })
+clip_at clips i = slice_index_or clips i (record {
+  clip = nowhere;
+  place = nowhere;
+  at = 0;
+  offset =
+      0;
+  len = 0;
+  gain = record { num = 0; den = 1 };
+  mute = false;
+  fade_in = 0;
+  fade_out = 0;
+  source
+      = record { 0 = [] };
+})
 
 -- the frames that a clip covers: none if it is muted
 abbrev pub span_of : Clip → Span

@@ -64,7 +64,7 @@ full fade = if fade == 0 then 1 else fade
 abbrev pub contribution : Clip → Gain → ℕ → ℤ → ℤ
 contribution clip track i x =
     rounded (x *ℤ pos ((clip.gain.num * track.num) * (level clip.fade_in i * level clip.fade_out
-        (clip.len - i))))
+    (clip.len - i))))
     ((clip.gain.den * track.den) * (full clip.fade_in * full clip.fade_out))
 
 abbrev pub clip_sample : Sources → Gain → ℕ → ℕ → Option Clip → ℤ

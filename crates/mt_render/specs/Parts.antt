@@ -15,8 +15,8 @@ abbrev pub gives : ℕ → ℕ → Part → ℤ
 gives f c p =
     if nat_le p.start f && nat_lt f p.end then
     rounded (sample_or_silence p.wave.now (p.offset + (f - p.at))
-        (min c (channels_of p.wave.now - 1)) *ℤ pos (p.scale.num * loudness p.fades (f - p.at)))
-        (p.scale.den * most p.fades)
+    (min c (channels_of p.wave.now - 1)) *ℤ pos (p.scale.num * loudness p.fades (f - p.at)))
+    (p.scale.den * most p.fades)
     else pos 0
 
 -- a number at the frames from `from` on and below `to`, and zero at the others

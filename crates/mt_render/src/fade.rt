@@ -149,8 +149,7 @@ impl Fades {
     /// Fades with the same levels in the frames where only the fade-out is active.
     pub(crate) fn falling(&self) -> Fades
         ensures len { result.len ≡ self.now.len }
-        ensures alike { AreAlike result self.now (max (rise self.now) (fall self.now)) self.now.len
-            }
+        ensures alike { AreAlike result self.now (max (rise self.now) (fall self.now)) self.now.len }
     {
         Fades {
             len: self.len,

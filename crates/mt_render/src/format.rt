@@ -32,8 +32,7 @@ impl Format {
     /// A format of these values. Fails with `BadFormat` (47) if the rate is not 1 to 384,000, the
     /// bits are not 16 or 24, or the channels not 1 or 2. Allocates nothing.
     pub fn new(rate: u32, bits: u16, channels: u16) -> Result<Format, FormatFault>
-        ensures ok { IfOk result (λ f. f ≡ record { rate = rate; bits = bits; channels = channels })
-            }
+        ensures ok { IfOk result (λ f. f ≡ record { rate = rate; bits = bits; channels = channels }) }
         ensures bad_format { IsErrOf result FormatFault.BadFormat
             ↔ (is_layout (record { rate = rate; bits = bits; channels = channels }) ≡ false) }
     {

@@ -18,7 +18,7 @@ pub fn sounding_clip()
     ensures top { (clips : List Clip) (f : ℕ) (c : Clip) → DifferBy (λ (x : Clip). x.place) clips
         → IsAmong c clips → sounds c f ≡ true
         → ((d : Clip) → IsAmong d clips → sounds d f ≡ true → is_lt (stamp_cmp c.place d.place)
-            ≡ false) → sounding clips f ≡ Some c }
+        ≡ false) → sounding clips f ≡ Some c }
     ensures none { (clips : List Clip) (f : ℕ) → ((d : Clip) → IsAmong d clips → sounds d f ≡ false)
         → sounding clips f ≡ None }
 {}

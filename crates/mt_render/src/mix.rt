@@ -42,8 +42,12 @@ impl<'c, 'a, A: Allocator> Model for Mix<'c, 'a, A> {
 
     ghost Value = { Programme };
 
-    ghost view = { λ m. record { tracks = m.session.now.tracks; sources = m.catalogue.now; layout =
-        m.format } };
+    ghost view = { λ m. record {
+      tracks = m.session.now.tracks;
+      sources = m.catalogue.now;
+      layout =
+          m.format;
+    } };
 
     ghost invariant = { λ m. IsKept m };
 }
@@ -62,11 +66,19 @@ impl<'c, 'a, A: Allocator> Mix<'c, 'a, A> {
     ) -> Result<Mix<'c, 'a, A>, MixFault>
     where
         A: Clone,
-        ensures value { IfOk result (λ m. m ≡ record { tracks = session.now.tracks; sources =
-            catalogue.now; layout = format }) }
+        ensures value { IfOk result (λ m. m ≡ record {
+          tracks = session.now.tracks;
+          sources =
+              catalogue.now;
+          layout = format;
+        }) }
         ensures ok { IfOk result IsMixable }
-        ensures err { IfErr result (IsMixFault (record { tracks = session.now.tracks; sources =
-            catalogue.now; layout = format })) }
+        ensures err { IfErr result (IsMixFault (record {
+          tracks = session.now.tracks;
+          sources =
+              catalogue.now;
+          layout = format;
+        })) }
     {
         let tracks = session.tracks.items();
         if let Some(digest) = least(tracks, &IsThere { catalogue }) {

@@ -44,8 +44,11 @@ joins_by None op = 0
 joins_by (Some log) op = sum_by joins_of (newly_ready_ops log op)
 
 abbrev pub kept_with : Editor → Op → Editor
-kept_with kept op = record { name = kept.name; log = option_map (λ log. with_op log op) kept.log;
-    joins = raised kept.joins (joins_by kept.log op) }
+kept_with kept op = record {
+  name = kept.name;
+  log = option_map (λ log. with_op log op) kept.log;
+  joins = raised kept.joins (joins_by kept.log op);
+}
 
 abbrev pub failed : Editor → Editor
 failed kept = record { name = kept.name; log = None; joins = kept.joins }

@@ -149,8 +149,11 @@ pub clip_before_absent_track : made_of p_removed (MoveClip nowhere (by 1 10 1) 0
     ≡ Err (NoSuchItem nowhere)
 clip_before_absent_track = refl
 
-pub absent_clip_before_track : made_of (record { stamp = by 5 10 5; act = act.Remove (by 2 11 1)
-    (by 2 11 1 ∷ []) } ∷ p_q) (MoveClip (by 2 11 1) nowhere 0) ≡ Err (Absent (by 2 11 1))
+pub absent_clip_before_track : made_of (record {
+  stamp = by 5 10 5;
+  act = act.Remove (by 2 11 1)
+      (by 2 11 1 ∷ []);
+} ∷ p_q) (MoveClip (by 2 11 1) nowhere 0) ≡ Err (Absent (by 2 11 1))
 absent_clip_before_track = refl
 
 -- 21 and 22 before 23 and 24
@@ -253,11 +256,11 @@ after_what_waits = refl
 
 pub other_changes : map (made_of p_q)
     (AddClip none (by 1 10 1) 1 2 3 ∷ MoveClip (by 2 11 1) (by 2 10 2) 5 ∷ TrimClip (by 2 11 1) 6 7
-        ∷ SetGain (by 2 11 1) unchanged ∷ SetMute (by 1 10 1) true ∷ [])
+    ∷ SetGain (by 2 11 1) unchanged ∷ SetMute (by 1 10 1) true ∷ [])
     ≡ op_by 3 11 2 (act.AddClip none (by 1 10 1) 1 2 3)
-        ∷ op_by 3 11 2 (act.MoveClip (by 2 11 1) (by 2 10 2) 5)
-        ∷ op_by 3 11 2 (act.TrimClip (by 2 11 1) 6 7) ∷ op_by 3 11 2
-        (act.SetGain (by 2 11 1) unchanged) ∷ op_by 3 11 2 (act.SetMute (by 1 10 1) true) ∷ []
+    ∷ op_by 3 11 2 (act.MoveClip (by 2 11 1) (by 2 10 2) 5)
+    ∷ op_by 3 11 2 (act.TrimClip (by 2 11 1) 6 7) ∷ op_by 3 11 2
+    (act.SetGain (by 2 11 1) unchanged) ∷ op_by 3 11 2 (act.SetMute (by 1 10 1) true) ∷ []
 other_changes = refl
 
 -- ---- what becomes ready by a take: in a log that has only the Retitle, and then the marker too

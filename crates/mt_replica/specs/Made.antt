@@ -47,8 +47,12 @@ greatest_seq name ops = greatest_of (map (λ (o : Op). o.stamp.seq) (filter (is_
 -- The clock is the greatest clock of the set plus 1 (Lamport: Communications of the ACM 21, 1978),
 -- and the number is the next one of the replica.
 abbrev pub made_stamp : List Op → Replica → Stamp
-made_stamp ops name = record { clock = suc (greatest_clock ops); replica = name; seq = suc
-    (greatest_seq name ops) }
+made_stamp ops name = record {
+  clock = suc (greatest_clock ops);
+  replica = name;
+  seq = suc
+      (greatest_seq name ops);
+}
 
 -- ---- the act
 
@@ -143,7 +147,7 @@ numbers_refused edit = or_else (unless (plays edit) ZeroLength)
 abbrev pub name_refused : List Op → Bool → Need → Option EditorFault
 name_refused ready present need =
     or_else (unless (list_any (meets need) ready) (NoSuchItem need.stamp))
-        (unless (not present || is_present ready need.stamp) (Absent need.stamp))
+    (unless (not present || is_present ready need.stamp) (Absent need.stamp))
 
 -- the first refusal of the items that an edit names
 abbrev pub names_refused : List Op → Bool → List Need → Option EditorFault

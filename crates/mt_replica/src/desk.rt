@@ -77,8 +77,12 @@ impl<A: Allocator, S: Sessions> Model for EditorCore<A, S> {
 
     ghost coded = { kept_code };
 
-    ghost view = { λ d. record { name = d.name; log = option_map (λ (s : StateValue). s.named.log)
-        d.state; joins = d.joins } };
+    ghost view = { λ d. record {
+      name = d.name;
+      log = option_map (λ (s : StateValue). s.named.log)
+          d.state;
+      joins = d.joins;
+    } };
 
     ghost invariant = { λ d. IfSome d.state (λ (s : StateValue). (s.named.name ≡ d.name)
         × (s.shown ≡ S.SHOWN)) };
@@ -101,8 +105,11 @@ impl<A: Allocator + Clone> Draft<A> {
 
     /// A draft that has taken a log's operations. Fails only with `Memory` (0).
     pub fn new(alloc: A, name: Replica, log: Log<A>) -> Result<Self, EditorFault>
-        ensures ok { IfOk result (λ draft. draft ≡ record { name = name; log = Some log; joins = 0
-            }) }
+        ensures ok { IfOk result (λ draft. draft ≡ record {
+          name = name;
+          log = Some log;
+          joins = 0;
+        }) }
         ensures err { IfErr result (λ fault. fault ≡ EditorFault.Memory) }
     {
         Ok(EditorCore::of_log(alloc, name, log)?)
@@ -166,8 +173,7 @@ impl<A: Allocator + Clone, S: Sessions> EditorCore<A, S> {
 
     // An `EditorCore` that has taken a log's operations. `AllocError` when an allocation fails.
     fn of_log(alloc: A, name: Replica, log: Log<A>) -> Result<Self, AllocError>
-        ensures ok { IfOk result (λ desk. desk ≡ record { name = name; log = Some log; joins = 0 })
-            }
+        ensures ok { IfOk result (λ desk. desk ≡ record { name = name; log = Some log; joins = 0 }) }
     {
         let state = if S::SHOWN {
             State::shown_of(&alloc, name, log)?

@@ -44,8 +44,7 @@ fn holds_operations<A: Allocator, S: Sessions>(desk: &EditorCore<A, S>)
 /// Drafts are equal if they have the same name and the same log, or the same name and both have
 /// failed. Their counts of joins do not matter.
 pub fn equal_drafts<A: Allocator>(draft: &Draft<A>, other: &Draft<A>) -> bool
-    ensures { IsTrue result ↔ ((draft.now.name ≡ other.now.name) × (draft.now.log ≡ other.now.log))
-        }
+    ensures { IsTrue result ↔ ((draft.now.name ≡ other.now.name) × (draft.now.log ≡ other.now.log)) }
 {
     holds_operations(draft);
     holds_operations(other);

@@ -32,8 +32,11 @@ fn all_applied<A: Allocator + Clone>(
     ops: &[Op<A>],
 ) -> Result<EditorState<A>, AllocError>
     requires follow { MayAllFollow view.ops ops.now }
-    ensures ok { IfOk result (λ after. after ≡ record { ops = applied_after view.ops ops.now; held =
-        view.held }) }
+    ensures ok { IfOk result (λ after. after ≡ record {
+      ops = applied_after view.ops ops.now;
+      held =
+          view.held;
+    }) }
 {
     let mut view = view;
     for op in ops {

@@ -63,8 +63,11 @@ impl<A: Allocator> Model for State<A> {
 
     ghost coded = { stated_code };
 
-    ghost view = { λ s. record { named = record { name = s.name; log = s.log }; shown = is_some
-        s.view.held } };
+    ghost view = { λ s. record {
+      named = record { name = s.name; log = s.log };
+      shown = is_some
+          s.view.held;
+    } };
 
     ghost invariant = { λ s. IsState (record { name = s.name; log = s.log }) s.view.ops s.clock
         s.seq
@@ -214,7 +217,7 @@ impl<A: Allocator + Clone> State<A> {
             ≡ Ok op) }
         ensures err { IfErr result (λ fault. (fault ≡ EditorFault.Memory)
             ⊎ (made (operations self.now.named.log) self.now.named.name (edit_of change.now)
-                ≡ Err fault)) }
+            ≡ Err fault)) }
     {
         let body = self.made_body(change)?;
         let stamp = self.next_stamp()?;

@@ -74,8 +74,11 @@ impl<A: Allocator> EditorState<A> {
 
     /// Sets the number of held operations in the session, if it is kept.
     pub(crate) fn set_held(&mut self, held: u64)
-        ensures { self.new ≡ record { ops = self.old.ops; held = option_map (λ h. held)
-            self.old.held } }
+        ensures { self.new ≡ record {
+          ops = self.old.ops;
+          held = option_map (λ h. held)
+              self.old.held;
+        } }
     {
         // for the proof: that the session is the one of the items
         let _ = &self.items;
@@ -105,8 +108,11 @@ impl<A: Allocator + Clone> EditorState<A> {
     /// when an allocation fails.
     pub(crate) fn apply(self, alloc: &A, op: &Op<A>) -> Result<Self, AllocError>
         requires follows { CanApply self.ops op.now }
-        ensures ok { IfOk result (λ view. view ≡ record { ops = op.now
-            ∷ self.ops; held = self.held }) }
+        ensures ok { IfOk result (λ view. view ≡ record {
+          ops = op.now
+              ∷ self.ops;
+          held = self.held;
+        }) }
     {
         let EditorState { items, shown } = self;
         match shown {

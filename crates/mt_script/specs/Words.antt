@@ -68,8 +68,12 @@ parts_of_stamp text = do
   clock ← cut point text
   seq ← cut point clock.1
   replica ← parsed seq.1
-  Some (record { clock = digits_value 10 clock.0; replica = record
-      { 0 = from_be_bytes w128 replica }; seq = digits_value 10 seq.0 })
+  Some (record {
+    clock = digits_value 10 clock.0;
+    replica = record
+        { 0 = from_be_bytes w128 replica };
+    seq = digits_value 10 seq.0;
+  })
 
 -- whether the parts are in the ranges of a stamp
 abbrev pub is_moment : Stamp → Bool

@@ -87,8 +87,7 @@ pub fn run_draft<A: Allocator + Clone>(
     text: &[u8],
 ) -> Result<(Draft<A>, usize), ScriptFault>
     ensures gives { RunGives draft text.now (count_of result) }
-    ensures holds { IfOk result (λ made. made.0 ≡ kept_with_all draft (scripted_in draft text.now))
-        }
+    ensures holds { IfOk result (λ made. made.0 ≡ kept_with_all draft (scripted_in draft text.now)) }
     ensures whole { IfOk result (λ made. made.0.log ≢ None) }
     ensures failed { IsErrOf result ScriptFault.Failed ↔ (draft.log ≡ None) }
 {

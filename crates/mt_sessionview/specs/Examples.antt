@@ -22,26 +22,51 @@ retitle c r n t = record { stamp = by c r n; act = Retitle (by 1 10 1) t }
 pub empty : session_of [] ≡ record { tracks = []; markers = []; held = 0 }
 empty = refl
 
-pub one_marker : session_of (news ∷ []) ≡ record { tracks = []; markers = record
-    { marker = by 1 10 1; at = 480; len = 0; title = codes "News" } ∷ []; held = 0 }
+pub one_marker : session_of (news ∷ []) ≡ record {
+  tracks = [];
+  markers = record
+      { marker = by 1 10 1; at = 480; len = 0; title = codes "News" } ∷ [];
+  held = 0;
+}
 one_marker = refl
 
 pub early_retitle : session_of (late ∷ []) ≡ record { tracks = []; markers = []; held = 1 }
 early_retitle = refl
 
-pub met_retitle : session_of (news ∷ late ∷ []) ≡ record
-    { tracks = []; markers = record { marker = by 1 10 1; at = 480; len = 0; title = codes "Late" }
-    ∷ []; held = 0 }
+pub met_retitle : session_of (news ∷ late ∷ []) ≡ record {
+  tracks = [];
+  markers = record { marker = by 1 10 1; at = 480; len = 0; title = codes "Late" }
+      ∷ [];
+  held = 0;
+}
 met_retitle = refl
 
 pub two_retitles : session_of (news ∷ retitle 2 10 2 (codes "X") ∷ retitle 2 11 1 (codes "Y") ∷ [])
-    ≡ record { tracks = []; markers = record { marker = by 1 10 1; at = 480; len = 0; title = codes
-    "Y" } ∷ []; held = 0 }
+    ≡ record {
+      tracks = [];
+      markers = record {
+        marker = by 1 10 1;
+        at = 480;
+        len = 0;
+        title = codes
+            "Y";
+      } ∷ [];
+      held = 0;
+    }
 two_retitles = refl
 
 pub two_retitles_turned : session_of (retitle 2 11 1 (codes "Y") ∷ retitle 2 10 2 (codes "X") ∷ news
-    ∷ []) ≡ record { tracks = []; markers = record { marker = by 1 10 1; at = 480; len = 0; title =
-    codes "Y" } ∷ []; held = 0 }
+    ∷ []) ≡ record {
+      tracks = [];
+      markers = record {
+        marker = by 1 10 1;
+        at = 480;
+        len = 0;
+        title =
+            codes "Y";
+      } ∷ [];
+      held = 0;
+    }
 two_retitles_turned = refl
 
 abbrev pub remove_by : ℕ → ℕ → ℕ → List Stamp → Op
@@ -55,13 +80,31 @@ pub removed : session_of (news ∷ remove_by 2 10 2 (by 1 10 1 ∷ []) ∷ [])
 removed = refl
 
 pub removed_and_restored : session_of (news ∷ remove_by 2 10 2 (by 1 10 1 ∷ []) ∷ restore_by 2 11 1
-    ∷ []) ≡ record { tracks = []; markers = record { marker = by 1 10 1; at = 480; len = 0; title =
-    codes "News" } ∷ []; held = 0 }
+    ∷ []) ≡ record {
+      tracks = [];
+      markers = record {
+        marker = by 1 10 1;
+        at = 480;
+        len = 0;
+        title =
+            codes "News";
+      } ∷ [];
+      held = 0;
+    }
 removed_and_restored = refl
 
 pub restored_and_removed : session_of (restore_by 2 11 1 ∷ remove_by 2 10 2 (by 1 10 1 ∷ []) ∷ news
-    ∷ []) ≡ record { tracks = []; markers = record { marker = by 1 10 1; at = 480; len = 0; title =
-    codes "News" } ∷ []; held = 0 }
+    ∷ []) ≡ record {
+      tracks = [];
+      markers = record {
+        marker = by 1 10 1;
+        at = 480;
+        len = 0;
+        title =
+            codes "News";
+      } ∷ [];
+      held = 0;
+    }
 restored_and_removed = refl
 
 pub removed_again : session_of (news ∷ remove_by 2 10 2 (by 1 10 1 ∷ []) ∷ restore_by 2 11 1
@@ -72,16 +115,37 @@ removed_again = refl
 -- a Remove that lists the tag of another marker waits
 pub wrong_role : session_of (news ∷ record { stamp = by 1 11 1; act = AddMarker 7 (codes "Sport") }
     ∷ remove_by 2 10 2 (by 1 11 1 ∷ []) ∷ [])
-    ≡ record { tracks = []; markers = record { marker = by 1 11 1; at = 7; len = 0; title = codes
-        "Sport" } ∷ record { marker = by 1 10 1; at = 480; len = 0; title = codes "News" }
-        ∷ []; held = 1 }
+    ≡ record {
+      tracks = [];
+      markers = record {
+        marker = by 1 11 1;
+        at = 7;
+        len = 0;
+        title = codes
+            "Sport";
+      } ∷ record { marker = by 1 10 1; at = 480; len = 0; title = codes "News" }
+          ∷ [];
+      held = 1;
+    }
 wrong_role = refl
 
 -- a marker that is moved while it is removed is restored at the new position
-pub moved_and_removed : session_of (news ∷ record { stamp = by 5 11 1; act = MoveMarker (by 1 10 1)
-    70 } ∷ remove_by 5 10 5 (by 1 10 1 ∷ []) ∷ restore_by 6 10 6 ∷ [])
-    ≡ record { tracks = []; markers = record { marker = by 1 10 1; at = 70; len = 0; title = codes
-        "News" } ∷ []; held = 0 }
+pub moved_and_removed : session_of (news ∷ record {
+  stamp = by 5 11 1;
+  act = MoveMarker (by 1 10 1)
+      70;
+} ∷ remove_by 5 10 5 (by 1 10 1 ∷ []) ∷ restore_by 6 10 6 ∷ [])
+    ≡ record {
+      tracks = [];
+      markers = record {
+        marker = by 1 10 1;
+        at = 70;
+        len = 0;
+        title = codes
+            "News";
+      } ∷ [];
+      held = 0;
+    }
 moved_and_removed = refl
 
 -- ---- tracks
@@ -127,8 +191,19 @@ abbrev pub clip_on : Stamp → Op
 clip_on which = record { stamp = by 2 11 1; act = AddClip none which 5 6 7 }
 
 abbrev pub seen : Stamp → ℕ → Clip
-seen place at = record { clip = by 2 11 1; place = place; at = at; offset = 6; len = 7; gain =
-    unchanged; mute = false; fade_in = 0; fade_out = 0; source = none }
+seen place at = record {
+  clip = by 2 11 1;
+  place = place;
+  at = at;
+  offset = 6;
+  len = 7;
+  gain =
+      unchanged;
+  mute = false;
+  fade_in = 0;
+  fade_out = 0;
+  source = none;
+}
 
 abbrev pub clips_of : List Op → List (List Clip)
 clips_of s = map (λ (t : Track). t.clips) (session_of s).tracks
@@ -139,8 +214,18 @@ p_q = track 1 10 1 None (codes "p") ∷ track 2 10 2 (Some (by 1 10 1)) (codes "
 
 -- a clip whose track is absent is not shown, and does not count as held
 pub removed_track_hides_its_clip : session_of (remove_by 3 10 3 (by 1 10 1 ∷ []) ∷ p_q)
-    ≡ record { tracks = record { track = by 2 10 2; title = codes "q"; gain = unchanged; mute =
-    false; clips = [] } ∷ []; markers = []; held = 0 }
+    ≡ record {
+      tracks = record {
+        track = by 2 10 2;
+        title = codes "q";
+        gain = unchanged;
+        mute =
+            false;
+        clips = [];
+      } ∷ [];
+      markers = [];
+      held = 0;
+    }
 removed_track_hides_its_clip = refl
 
 pub restored_track_shows_its_clip : clips_of (remove_by 3 10 3 (by 1 10 1 ∷ []) ∷ restore_by 4 10 4
@@ -165,8 +250,10 @@ moved_removed_and_restored_clip = refl
 -- ---- fades and lengths
 
 abbrev pub fades : ℕ → ℕ → ℕ → ℕ → ℕ → Op
-fades c r n fade_in fade_out = record { stamp = by c r n; act = SetFade (by 2 11 1) fade_in fade_out
-    }
+fades c r n fade_in fade_out = record {
+  stamp = by c r n;
+  act = SetFade (by 2 11 1) fade_in fade_out;
+}
 
 -- of two fades the one with the greater stamp counts, in any order of the list
 pub two_fades : clips_of (fades 3 10 3 1 0 ∷ fades 3 11 2 5 0 ∷ p_q)
@@ -180,12 +267,33 @@ two_fades_turned = refl
 -- a fade of an item that is no clip waits
 pub faded_marker : session_of (news ∷ record { stamp = by 2 10 2; act = SetFade (by 1 10 1) 1 1 }
     ∷ [])
-    ≡ record { tracks = []; markers = record { marker = by 1 10 1; at = 480; len = 0; title = codes
-        "News" } ∷ []; held = 1 }
+    ≡ record {
+      tracks = [];
+      markers = record {
+        marker = by 1 10 1;
+        at = 480;
+        len = 0;
+        title = codes
+            "News";
+      } ∷ [];
+      held = 1;
+    }
 faded_marker = refl
 
-pub marker_with_a_length : session_of (record { stamp = by 2 10 2; act = SetMarkerLength (by 1 10 1)
-    96 } ∷ news ∷ [])
-    ≡ record { tracks = []; markers = record { marker = by 1 10 1; at = 480; len = 96; title = codes
-        "News" } ∷ []; held = 0 }
+pub marker_with_a_length : session_of (record {
+  stamp = by 2 10 2;
+  act = SetMarkerLength (by 1 10 1)
+      96;
+} ∷ news ∷ [])
+    ≡ record {
+      tracks = [];
+      markers = record {
+        marker = by 1 10 1;
+        at = 480;
+        len = 96;
+        title = codes
+            "News";
+      } ∷ [];
+      held = 0;
+    }
 marker_with_a_length = refl

@@ -124,8 +124,12 @@ tree_place o = record { place = o.stamp; after = place_after o.act }
 -- the element of a list of places for an operation; for one that gives no place, its own stamp at
 -- the head
 abbrev pub place_of_op : Op → Placed
-place_of_op o = record { place = o.stamp; after = place_after o.act; track = unwrap_or
-    (placed_track o.stamp o.act) o.stamp }
+place_of_op o = record {
+  place = o.stamp;
+  after = place_after o.act;
+  track = unwrap_or
+      (placed_track o.stamp o.act) o.stamp;
+}
 
 module _ (applied : List Op) where
   -- the clips of a track, by rising stamp
@@ -157,8 +161,11 @@ HoldStands applied cells = (track : Stamp) → MatchOption (lookup (stamp_eq tra
 
 -- the operation at an index, and a placeholder if there is none
 abbrev pub op_at : List Op → ℕ → Op
-op_at ops p = slice_index_or ops p (record { stamp = record
-    { clock = 0; replica = record { 0 = 0 }; seq = 0 }; act = AddMarker 0 [] })
+op_at ops p = slice_index_or ops p (record {
+  stamp = record
+      { clock = 0; replica = record { 0 = 0 }; seq = 0 };
+  act = AddMarker 0 [];
+})
 
 -- the operations at these indexes, in this order
 abbrev pub ops_at : List Op → List ℕ → List Op

@@ -31,10 +31,10 @@ len_text len = if len == 0 then [] else codes " len " ++ decimal len
 abbrev pub clip_line : Clip → List ℕ
 clip_line c =
     codes "clip " ++ (stamp_text c.clip ++ (codes " place "
-        ++ (stamp_text c.place ++ (codes " at " ++ (decimal c.at
-        ++ (codes " offset " ++ (decimal c.offset ++ (codes " len " ++ (decimal c.len
+    ++ (stamp_text c.place ++ (codes " at " ++ (decimal c.at
+    ++ (codes " offset " ++ (decimal c.offset ++ (codes " len " ++ (decimal c.len
     ++ (sound_text c.gain c.mute ++ (fade_text c.fade_in c.fade_out
-        ++ (codes " source " ++ (digest_text c.source ++ newline ∷ [])))))))))))))
+    ++ (codes " source " ++ (digest_text c.source ++ newline ∷ [])))))))))))))
 
 -- `track STAMP gain NUM/DEN mute on|off title TITLE`: the title follows the one space after the
 -- word, and may be empty

@@ -104,8 +104,10 @@ impl<A: Allocator> Session<A> {
         requires { index < length self.old.tracks }
         ensures taken { result ≡ option_and_then (λ t. find (is_clip_at at place) t.clips)
             (slice_get self.old.tracks index) }
-        ensures rest { self.new ≡ record self.old { tracks = changed_at index
-            (without_clip at place) self.old.tracks } }
+        ensures rest { self.new ≡ record self.old {
+          tracks = changed_at index
+              (without_clip at place) self.old.tracks;
+        } }
     {
         let track = self.tracks.item_mut(index);
         track.take_clip(at, place)
@@ -118,8 +120,10 @@ impl<A: Allocator> Session<A> {
         requires inside { index < length self.old.tracks }
         requires there { (t : Track) → slice_get self.old.tracks index ≡ Some t
             → list_any (is_clip_at clip.at clip.place) t.clips ≡ true }
-        ensures { self.new ≡ record self.old { tracks = changed_at index
-            (λ t. with_clip clip (without_clip clip.at clip.place t)) self.old.tracks } }
+        ensures { self.new ≡ record self.old {
+          tracks = changed_at index
+              (λ t. with_clip clip (without_clip clip.at clip.place t)) self.old.tracks;
+        } }
     {
         let track = self.tracks.item_mut(index);
         track.set_clip(clip)

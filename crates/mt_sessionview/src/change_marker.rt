@@ -64,8 +64,10 @@ impl<A: Allocator> Session<A> {
     /// Allocates no memory.
     pub fn take_marker(&mut self, at: u32, marker: Stamp) -> Option<MarkerView<A>>
         ensures taken { result ≡ find (is_marker_at at marker) self.old.markers }
-        ensures rest { self.new ≡ record self.old { markers = filter
-            (λ m. not (is_marker_at at marker m)) self.old.markers } }
+        ensures rest { self.new ≡ record self.old {
+          markers = filter
+              (λ m. not (is_marker_at at marker m)) self.old.markers;
+        } }
     {
         let index = marker_index(self.markers.items(), at, marker)?;
         Some(self.markers.remove(index))
@@ -76,8 +78,10 @@ impl<A: Allocator> Session<A> {
     /// Allocates no memory.
     pub fn set_marker(&mut self, marker: MarkerView<A>)
         requires { list_any (is_marker_at marker.at marker.marker) self.old.markers ≡ true }
-        ensures { self.new ≡ record self.old { markers = insert_by marker_cmp marker
-            (filter (λ m. not (is_marker_at marker.at marker.marker m)) self.old.markers) } }
+        ensures { self.new ≡ record self.old {
+          markers = insert_by marker_cmp marker
+              (filter (λ m. not (is_marker_at marker.at marker.marker m)) self.old.markers);
+        } }
     {
         let Some(index) = marker_index(self.markers.items(), marker.at, marker.marker) else {
             return;

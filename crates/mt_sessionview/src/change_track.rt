@@ -62,8 +62,10 @@ impl<A: Allocator> Session<A> {
     /// clips stay the same. Allocates no memory.
     pub fn set_track(&mut self, index: usize, title: Title<A>, gain: Gain, mute: bool)
         requires { index < length self.old.tracks }
-        ensures { self.new ≡ record self.old { tracks = changed_at index
-            (with_fields title gain mute) self.old.tracks } }
+        ensures { self.new ≡ record self.old {
+          tracks = changed_at index
+              (with_fields title gain mute) self.old.tracks;
+        } }
     {
         let track = self.tracks.item_mut(index);
         track.title = title;

@@ -54,8 +54,7 @@ pub fn write_text<A: Allocator, W: Write>(
     ensures prefix { AppendsPrefix (W.contents output.old.inner) (W.contents output.new.inner)
         (session_text session.now) }
     ensures sound { OnOk result (output.new.failed ≡ false) }
-    ensures err { IfErr result (λ fault. (fault ≡ SessionFault.Write) × (output.new.failed ≡ true))
-        }
+    ensures err { IfErr result (λ fault. (fault ≡ SessionFault.Write) × (output.new.failed ≡ true)) }
     ensures stays_failed { output.old.failed ≡ true → output.new ≡ output.old }
 {
     let mut lines = BufferedLatch::new(output);

@@ -37,14 +37,46 @@ impl Model for ClipView {
 
     ghost Value = { Clip };
 
-    ghost view = { λ c. record { clip = c.clip; place = c.place; at = c.at; offset = c.offset; len =
-        c.len; gain = c.gain; mute = c.mute; fade_in = c.fade_in; fade_out = c.fade_out; source = c.source } };
+    ghost view = { λ c. record {
+      clip = c.clip;
+      place = c.place;
+      at = c.at;
+      offset = c.offset;
+      len =
+          c.len;
+      gain = c.gain;
+      mute = c.mute;
+      fade_in = c.fade_in;
+      fade_out = c.fade_out;
+      source = c.source;
+    } };
 
-    ghost invariant = { λ c. IsClip (record { clip = c.clip; place = c.place; at = c.at; offset =
-        c.offset; len = c.len; gain = c.gain; mute = c.mute; fade_in = c.fade_in; fade_out = c.fade_out; source = c.source }) };
+    ghost invariant = { λ c. IsClip (record {
+      clip = c.clip;
+      place = c.place;
+      at = c.at;
+      offset =
+          c.offset;
+      len = c.len;
+      gain = c.gain;
+      mute = c.mute;
+      fade_in = c.fade_in;
+      fade_out = c.fade_out;
+      source = c.source;
+    }) };
 
-    ghost inverse = { λ c. record { clip = c.clip; place = c.place; at = c.at; offset = c.offset;
-        len = c.len; gain = c.gain; mute = c.mute; fade_in = c.fade_in; fade_out = c.fade_out; source = c.source } };
+    ghost inverse = { λ c. record {
+      clip = c.clip;
+      place = c.place;
+      at = c.at;
+      offset = c.offset;
+      len = c.len;
+      gain = c.gain;
+      mute = c.mute;
+      fade_in = c.fade_in;
+      fade_out = c.fade_out;
+      source = c.source;
+    } };
 }
 
 /// A present track. Its clips are in order, and no two of them have the same place.
@@ -68,14 +100,30 @@ impl<A: Allocator> Model for TrackView<A> {
 
     ghost Value = { Track };
 
-    ghost view = { λ t. record { track = t.track; title = t.title; gain = t.gain; mute = t.mute;
-        clips = t.clips } };
+    ghost view = { λ t. record {
+      track = t.track;
+      title = t.title;
+      gain = t.gain;
+      mute = t.mute;
+      clips = t.clips;
+    } };
 
-    ghost invariant = { λ t. IsTrack (record { track = t.track; title = t.title; gain = t.gain; mute
-        = t.mute; clips = t.clips }) };
+    ghost invariant = { λ t. IsTrack (record {
+      track = t.track;
+      title = t.title;
+      gain = t.gain;
+      mute
+          = t.mute;
+      clips = t.clips;
+    }) };
 
-    ghost inverse = { λ t. record { track = t.track; title = t.title; gain = t.gain; mute = t.mute;
-        clips = t.clips } };
+    ghost inverse = { λ t. record {
+      track = t.track;
+      title = t.title;
+      gain = t.gain;
+      mute = t.mute;
+      clips = t.clips;
+    } };
 }
 
 /// A present marker.
@@ -122,8 +170,12 @@ impl<A: Allocator> Model for Session<A> {
 
     ghost view = { λ s. record { tracks = s.tracks; markers = s.markers; held = s.held } };
 
-    ghost invariant = { λ s. IsSession (record { tracks = s.tracks; markers = s.markers; held =
-        s.held }) };
+    ghost invariant = { λ s. IsSession (record {
+      tracks = s.tracks;
+      markers = s.markers;
+      held =
+          s.held;
+    }) };
 
     ghost inverse = { λ c. record { tracks = c.tracks; markers = c.markers; held = c.held } };
 }

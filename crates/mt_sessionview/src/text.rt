@@ -127,8 +127,7 @@ fn put_clip_line<W: Write>(output: &mut BufferedLatch<'_, W>, view: &ClipView)
 // Writes ` title TITLE` and a line feed, the title unchanged.
 #[tactic(auto, using(base_io::proofs::Putting::then_puts))]
 fn put_title<W: Write>(output: &mut BufferedLatch<'_, W>, title: &str)
-    ensures { Puts W.contents output.old output.new (codes " title " ++ (title.now ++ newline ∷ []))
-        }
+    ensures { Puts W.contents output.old output.new (codes " title " ++ (title.now ++ newline ∷ [])) }
 {
     output.put(b" title ");
     output.put(title.as_bytes());

@@ -51,8 +51,14 @@ pub(crate) fn track_with<A: Allocator>(
     clips: Vec<ClipView, A>,
 ) -> TrackView<A>
     requires clips { AreClips clips.items }
-    ensures { result ≡ record { track = track; title = title; gain = cells.now.gain.value; mute =
-        cells.now.mute.value; clips = clips.items } }
+    ensures { result ≡ record {
+      track = track;
+      title = title;
+      gain = cells.now.gain.value;
+      mute =
+          cells.now.mute.value;
+      clips = clips.items;
+    } }
 {
     TrackView {
         track,

@@ -6,4 +6,4 @@ pub stamps_total : IsTotalOrder stamp_cmp
 stamps_total =
     then_total (on_total (λ (m : Stamp). m.clock) nat_cmp_total)
     (then_total (on_total (λ (m : Stamp). m.replica.0) nat_cmp_total)
-        (on_total (λ (m : Stamp). m.seq) nat_cmp_total))
+    (on_total (λ (m : Stamp). m.seq) nat_cmp_total))

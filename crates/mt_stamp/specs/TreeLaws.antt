@@ -39,4 +39,4 @@ SubtreesStandTogether = (places : List TreePlace) → IsTree places
     → (i j : ℕ) (s t : TreePlace) (p : Stamp) (rest : List Stamp) → slice_get places i ≡ Some s
     → slice_get places j ≡ Some t
     → s.after ≡ t.after → stamp_cmp s.place t.place ≡ Less → path places p ≡ path places t.place
-        ++ rest → tree_cmp places p s.place ≡ Less
+    ++ rest → tree_cmp places p s.place ≡ Less

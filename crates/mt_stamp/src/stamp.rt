@@ -34,8 +34,7 @@ impl Model for Stamp {
 
     ghost view = { λ s. record { clock = s.clock; replica = s.replica; seq = s.seq } };
 
-    ghost invariant = { λ s. IsStamp (record { clock = s.clock; replica = s.replica; seq = s.seq })
-        };
+    ghost invariant = { λ s. IsStamp (record { clock = s.clock; replica = s.replica; seq = s.seq }) };
 
     ghost inverse = { λ m. record { clock = m.clock; replica = m.replica; seq = m.seq } };
 }

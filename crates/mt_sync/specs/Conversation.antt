@@ -81,7 +81,7 @@ abbrev pub greets_back : Option LogMap → Summary → Received
 greets_back None summary = stop Failed None
 greets_back (Some set) summary =
     if can_say (summary_of set) then goes_on (awaits_ops None) (Some set)
-        (frame_text (have_text (summary_of set)) ++ answer set summary)
+    (frame_text (have_text (summary_of set)) ++ answer set summary)
     else stop FrameTooLong (Some set)
 
 -- the caller's reply to Bye: the operations that the answerer lacks, and Bye
@@ -127,5 +127,8 @@ byte_in end byte = by end.turn
 -- the effect of bytes, one after another
 abbrev pub receives : End → List ℕ → Received
 receives end [] = (end, [])
-receives end (byte ∷ bytes) = ((receives (byte_in end byte).0 bytes).0, (byte_in end byte).1
-    ++ (receives (byte_in end byte).0 bytes).1)
+receives end (byte ∷ bytes) = (
+  (receives (byte_in end byte).0 bytes).0,
+  (byte_in end byte).1
+      ++ (receives (byte_in end byte).0 bytes).1,
+)

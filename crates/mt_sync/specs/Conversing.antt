@@ -100,10 +100,10 @@ ConversesAs Answerer before after result = Converses (end_at (awaits_have Answer
     before after result
 ConversesAs Caller before after result =
     ((after.read ≡ before.read) × ((after.set ≡ before.set)
-        × NotBegun before.set before.written after.written result))
+    × NotBegun before.set before.written after.written result))
     ⊎ ((mid : Option (List ℕ)) × (Begins before.set before.written mid
     × Converses (end_at (awaits_have Caller) [] before.set) (conversant before.set before.read mid)
-        after result))
+    after result))
 
 -- ---- taking operations out of bytes
 

@@ -23,8 +23,10 @@ use Rattle.mt_sync.specs.Feeding.{IsOpen, end_at}
 -- an end that receives piece by piece, and all that it sends
 abbrev pub receives_pieces : End → List (List ℕ) → Received
 receives_pieces end [] = (end, [])
-receives_pieces end (piece ∷ pieces) = ((receives_pieces (receives end piece).0 pieces).0,
-    (receives end piece).1 ++ (receives_pieces (receives end piece).0 pieces).1)
+receives_pieces end (piece ∷ pieces) = (
+  (receives_pieces (receives end piece).0 pieces).0,
+  (receives end piece).1 ++ (receives_pieces (receives end piece).0 pieces).1,
+)
 
 -- However a stream is cut into pieces, the end reaches the same turn and set, and sends the same
 -- bytes.
@@ -47,7 +49,7 @@ pub record FramesAreReceived : Type 0 where
   pub message : (turn : Turn) (set : Option LogMap) (m : Message) (rest : List ℕ) → IsOpen turn
       → IsMessage m → length (message_text m) ≤ longest_body
       → receives (end_at turn [] set) (frame_text (message_text m) ++ rest)
-          ≡ after (receives_message turn m set) rest
+      ≡ after (receives_message turn m set) rest
   pub cut : (turn : Turn) (set : Option LogMap) (body front more : List ℕ) (byte : ℕ) → IsOpen turn
       → length body ≤ longest_body → front ++ byte ∷ more ≡ frame_text body
       → receives (end_at turn [] set) front ≡ (end_at turn front set, [])
@@ -83,17 +85,17 @@ pub record EndsStop : Type 0 where
       (rest : List ℕ) → IsMessage (ops list) → length (ops_text list) ≤ longest_body
       → joined set list ≡ (new, Some dot)
       → receives (end_at (awaits_ops owed) [] (Some set)) (frame_text (ops_text list) ++ rest)
-          ≡ stop (Conflict dot) (Some new)
+      ≡ stop (Conflict dot) (Some new)
   -- 20: the editor has failed, and its log is needed: to reply to a Have, to take operations, or to
   -- reply to Bye
   pub failed_at_have : (summary : Summary) (rest : List ℕ) → IsSummary summary → can_say summary
       ≡ true
       → receives (end_at (awaits_have Answerer) [] None) (frame_text (have_text summary) ++ rest)
-          ≡ stop Failed None
+      ≡ stop Failed None
   pub failed_at_ops : (owed : Option Summary) (list : List Op) (rest : List ℕ)
       → IsMessage (ops list) → length (ops_text list) ≤ longest_body
       → receives (end_at (awaits_ops owed) [] None) (frame_text (ops_text list) ++ rest)
-          ≡ stop Failed None
+      ≡ stop Failed None
   pub failed_at_bye : (owed : Summary) (rest : List ℕ)
       → receives (end_at (awaits_ops (Some owed)) [] None) (frame_text bye_text ++ rest)
       ≡ stop Failed None
@@ -101,7 +103,7 @@ pub record EndsStop : Type 0 where
   pub own_too_long : (set : LogMap) (summary : Summary) (rest : List ℕ) → IsSummary summary
       → can_say summary ≡ true → can_say (summary_of set) ≡ false
       → receives (end_at (awaits_have Answerer) [] (Some set))
-          (frame_text (have_text summary) ++ rest) ≡ stop FrameTooLong (Some set)
+      (frame_text (have_text summary) ++ rest) ≡ stop FrameTooLong (Some set)
 
 -- ---- an honest peer
 
@@ -138,11 +140,16 @@ FrontsAreHonest other = (side : Side) (own greeting : LogMap) (asked : Summary)
 -- not.
 pub record Converse (caller answerer : LogMap) : Type 0 where
   pub greeted : receives (end_at (awaits_have Answerer) [] (Some answerer))
-      (frame_text (have_text (summary_of caller))) ≡ (end_at (awaits_ops None) [] (Some answerer),
-      honest answerer answerer (summary_of caller))
+      (frame_text (have_text (summary_of caller))) ≡ (
+        end_at (awaits_ops None) [] (Some answerer),
+        honest answerer answerer (summary_of caller),
+      )
   pub called : receives (end_at (awaits_have Caller) [] (Some caller))
-      (honest answerer answerer (summary_of caller)) ≡ (end_at ended []
-      (Some (union caller answerer)), answer (union caller answerer) (summary_of answerer))
+      (honest answerer answerer (summary_of caller)) ≡ (
+        end_at ended []
+            (Some (union caller answerer)),
+        answer (union caller answerer) (summary_of answerer),
+      )
   pub answered : receives (end_at (awaits_ops None) [] (Some answerer))
       (answer (union caller answerer) (summary_of answerer))
       ≡ (end_at ended [] (Some (union answerer caller)), [])

@@ -37,9 +37,9 @@ pub fn converse<A: Allocator + Clone, R: Read, W: Write, H: OpStore<A>>(
     requires whole { H.whole holder.old ≡ true }
     ensures converses { ConversesAs side
         (conversant (H.held holder.old) (R.remaining reader.old.inner)
-            (W.contents writer.old.inner))
+        (W.contents writer.old.inner))
         (conversant (H.held holder.new) (R.remaining reader.new.inner)
-            (W.contents writer.new.inner)) result }
+        (W.contents writer.new.inner)) result }
     ensures name { H.named holder.new ≡ H.named holder.old }
     ensures sound { OnOk result (AreSound reader.new writer.new) }
     ensures blames { IfErr result (Blames R.remaining reader.new writer.new) }
@@ -95,9 +95,9 @@ fn hold_on<A: Allocator + Clone, R: Read, W: Write, H: OpStore<A>>(
     requires { IsOpen talk.old.turn }
     ensures converses { Converses (end_of talk.old (H.held holder.old))
         (conversant (H.held holder.old) (R.remaining reader.old.inner)
-            (W.contents writer.old.inner))
+        (W.contents writer.old.inner))
         (conversant (H.held holder.new) (R.remaining reader.new.inner)
-            (W.contents writer.new.inner)) result }
+        (W.contents writer.new.inner)) result }
     ensures name { H.named holder.new ≡ H.named holder.old }
     ensures sound { OnOk result (AreSound reader.new writer.new) }
     ensures blames { IfErr result (Blames R.remaining reader.new writer.new) }

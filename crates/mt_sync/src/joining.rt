@@ -95,8 +95,12 @@ fn replace<A: Allocator + Clone>(
     editor: &mut Editor<A>,
     log: Log<A>,
 ) -> Result<(), AllocError>
-    ensures ok { OnOk result (editor.new ≡ record { name = editor.old.name; log = Some log; joins =
-        0 }) }
+    ensures ok { OnOk result (editor.new ≡ record {
+      name = editor.old.name;
+      log = Some log;
+      joins =
+          0;
+    }) }
     ensures kept { OnErr result (editor.new ≡ editor.old) }
 {
     match Editor::from_log(alloc.clone()?, editor.name(), log) {

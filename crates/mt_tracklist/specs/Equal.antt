@@ -45,9 +45,13 @@ pub placed_itself : (a : Placed) → same_placed a a ≡ true
 placed_itself a = rw (stamp_eq-itself a.place, after_itself a.after, stamp_eq-itself a.track) refl
 
 pub same_placed_equiv : IsEquivalence same_placed
-same_placed_equiv = record { refl = placed_itself; symm = λ a b. symm a b (same_placed a b)
-    (same_placed b a) refl refl; congr = λ a b c e. ap (λ (d : Placed). same_placed d c)
-    (placed_true a b e) }
+same_placed_equiv = record {
+  refl = placed_itself;
+  symm = λ a b. symm a b (same_placed a b)
+      (same_placed b a) refl refl;
+  congr = λ a b c e. ap (λ (d : Placed). same_placed d c)
+      (placed_true a b e);
+}
   where
     symm : (a b : Placed) (x y : Bool) → same_placed a b ≡ x → same_placed b a ≡ y → x ≡ y
     symm a b true y e f = sym (placed_itself b) ∙ ap (same_placed b) (sym (placed_true a b e)) ∙ f

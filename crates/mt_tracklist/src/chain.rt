@@ -21,8 +21,11 @@ impl<A: Allocator> Model for Chain<A> {
 
     ghost Value = { ChainList };
 
-    ghost view = { λ c. record { count = length c.next.items; items = spelled (length c.next.items)
-        c.next.items c.first } };
+    ghost view = { λ c. record {
+      count = length c.next.items;
+      items = spelled (length c.next.items)
+          c.next.items c.first;
+    } };
 
     ghost invariant = { λ c. IsChain c.next.items c.first };
 }

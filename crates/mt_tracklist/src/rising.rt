@@ -87,8 +87,7 @@ pub fn order_of<A: Allocator + Clone>(
     requires tree { IsTree (given_tree places.now) }
     ensures below { IfOk result (λ order. (k p : ℕ) → slice_get order.items k ≡ Some p → p
         < length places.now) }
-    ensures all { IfOk result (λ order. (p : ℕ) → p < length places.now → has order.items p ≡ true)
-        }
+    ensures all { IfOk result (λ order. (p : ℕ) → p < length places.now → has order.items p ≡ true) }
     ensures sorted { IfOk result (λ order. IsStrictlySortedBy (tree_cmp (given_tree places.now))
         (map (stamp_at (given_tree places.now)) order.items)) }
 {

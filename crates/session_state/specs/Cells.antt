@@ -21,33 +21,33 @@ use Rattle.session_state.specs.declared.cells.TrackCells.{TrackCells}
 
 -- A working predicate: the cells of a marker.
 pub record HoldsMarker {A : Type 0} (item : Stamp) (ops : List Op) (cells : MarkerCells A) : Type 0
-    where
-  pub position : HoldsLast position_written item ops cells.position
-  pub title : HoldsLast title_written item ops cells.title
-  pub len : HoldsLast marker_length_written item ops cells.len
-  pub presence : HoldsTags item ops cells.presence
+  where
+    pub position : HoldsLast position_written item ops cells.position
+    pub title : HoldsLast title_written item ops cells.title
+    pub len : HoldsLast marker_length_written item ops cells.len
+    pub presence : HoldsTags item ops cells.presence
 
 -- A working predicate: the cells of a clip.
 pub record HoldsClip {A : Type 0} (item : Stamp) (ops : List Op) (cells : ClipCells A) : Type 0
-    where
-  pub place : HoldsLast clip_place_written item ops cells.place
-  pub trim : HoldsLast trim_written item ops cells.trim
-  pub positive : 1 ≤ cells.trim.value.len
-  pub gain : HoldsLast gain_written item ops cells.gain
-  pub mute : HoldsLast mute_written item ops cells.mute
-  pub fades : HoldsLast fades_written item ops cells.fades
-  pub short : AreShort cells.fades.value
-  pub source : HoldsLast source_written item ops (record { writer = item; value = cells.source })
-  pub presence : HoldsTags item ops cells.presence
+  where
+    pub place : HoldsLast clip_place_written item ops cells.place
+    pub trim : HoldsLast trim_written item ops cells.trim
+    pub positive : 1 ≤ cells.trim.value.len
+    pub gain : HoldsLast gain_written item ops cells.gain
+    pub mute : HoldsLast mute_written item ops cells.mute
+    pub fades : HoldsLast fades_written item ops cells.fades
+    pub short : AreShort cells.fades.value
+    pub source : HoldsLast source_written item ops (record { writer = item; value = cells.source })
+    pub presence : HoldsTags item ops cells.presence
 
 -- A working predicate: the cells of a track.
 pub record HoldsTrack {A : Type 0} (item : Stamp) (ops : List Op) (cells : TrackCells A) : Type 0
-    where
-  pub place : HoldsLast track_place_written item ops cells.place
-  pub title : HoldsLast title_written item ops cells.title
-  pub gain : HoldsLast gain_written item ops cells.gain
-  pub mute : HoldsLast mute_written item ops cells.mute
-  pub presence : HoldsTags item ops cells.presence
+  where
+    pub place : HoldsLast track_place_written item ops cells.place
+    pub title : HoldsLast title_written item ops cells.title
+    pub gain : HoldsLast gain_written item ops cells.gain
+    pub mute : HoldsLast mute_written item ops cells.mute
+    pub presence : HoldsTags item ops cells.presence
 
 -- the items of a kind, in the order in which they were applied
 abbrev pub items_of : Role → List Op → List Stamp

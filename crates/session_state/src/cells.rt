@@ -69,8 +69,14 @@ impl<A: Allocator> TrackCells<A> {
     where
         A: Clone,
         ensures title { IfOk result (λ title. title ≡ self.old.title.value) }
-        ensures cells { OnOk result (self.new ≡ record { place = self.old.place; title = record
-            { writer = self.old.title.writer; value = [] }; gain = self.old.gain; mute = self.old.mute; presence = self.old.presence }) }
+        ensures cells { OnOk result (self.new ≡ record {
+          place = self.old.place;
+          title = record
+              { writer = self.old.title.writer; value = [] };
+          gain = self.old.gain;
+          mute = self.old.mute;
+          presence = self.old.presence;
+        }) }
         ensures kept { OnErr result (self.new ≡ self.old) }
     {
         let Ok(empty) = Title::new(alloc.clone()?, "") else {

@@ -302,8 +302,7 @@ impl<A: Allocator> ItemStates<A> {
 
     /// The last write of a marker's length, in frames. `None` if the stamp names no marker.
     pub fn marker_length(&self, marker: Stamp) -> Option<&Register<u32>>
-        ensures { option_map (λ r. r.now) result ≡ last_write marker_length_written marker self.now
-            }
+        ensures { option_map (λ r. r.now) result ≡ last_write marker_length_written marker self.now }
     {
         match self.markers.get(marker) {
             Some(cells) => Some(&cells.len),

@@ -83,8 +83,10 @@ impl<A: Allocator> ItemPresence<A> {
     pub(crate) fn add_tag(&mut self, alloc: &A, stamp: Stamp) -> Result<(), AllocError>
     where
         A: Clone,
-        ensures tagged { OnOk result (self.new ≡ record { tags = set.insert self.old.tags stamp;
-            removed = self.old.removed }) }
+        ensures tagged { OnOk result (self.new ≡ record {
+          tags = set.insert self.old.tags stamp;
+          removed = self.old.removed;
+        }) }
     {
         let mut marks = marks_of(alloc, self.own, self.applied.take())?;
         marks.add_tag(stamp)?;
@@ -96,8 +98,11 @@ impl<A: Allocator> ItemPresence<A> {
     pub(crate) fn remove_tag(&mut self, alloc: &A, stamp: Stamp) -> Result<(), AllocError>
     where
         A: Clone,
-        ensures removed { OnOk result (self.new ≡ record { tags = self.old.tags; removed =
-            set.insert self.old.removed stamp }) }
+        ensures removed { OnOk result (self.new ≡ record {
+          tags = self.old.tags;
+          removed =
+              set.insert self.old.removed stamp;
+        }) }
     {
         let mut marks = marks_of(alloc, self.own, self.applied.take())?;
         marks.remove_tag(stamp)?;
@@ -112,8 +117,7 @@ fn marks_of<A: Allocator + Clone>(
     own: Stamp,
     applied: Option<Box<Presence<A>, A>>,
 ) -> Result<Box<Presence<A>, A>, AllocError>
-    ensures ok { IfOk result (λ marks. marks.value ≡ marks_from own (option_map box_value applied))
-        }
+    ensures ok { IfOk result (λ marks. marks.value ≡ marks_from own (option_map box_value applied)) }
 {
     if let Some(marks) = applied {
         return Ok(marks);

@@ -92,8 +92,12 @@ with_placed (Some placed) list = inserted list placed
 -- the place of an item in a session: the position of a marker, a clip with its track, and whether
 -- an item of this stamp was added at all
 abbrev pub located_in : List Op → Stamp → Located
-located_in ops item = record { marker = marker_position ops item; clip = placed_clip ops item; known
-    = is_known ops item }
+located_in ops item = record {
+  marker = marker_position ops item;
+  clip = placed_clip ops item;
+  known
+      = is_known ops item;
+}
 
 -- The session is that before the last of these operations, and its item was there.
 pub record SessionLocated (ops : List Op) (item : Stamp) (located : Located) (content : Session) :

@@ -60,8 +60,13 @@ module _ (ops : List Op) where
 
   -- a track with its clips updated in that way
   abbrev pub track_updated : Stamp → Track → Track
-  track_updated item t = record { track = t.track; title = t.title; gain = t.gain; mute = t.mute;
-      clips = clips_updated item t.track t.clips }
+  track_updated item t = record {
+    track = t.track;
+    title = t.title;
+    gain = t.gain;
+    mute = t.mute;
+    clips = clips_updated item t.track t.clips;
+  }
 
   -- tracks with the old entry of one item removed, the clips of every other track updated, and the
   -- item's new entry inserted
@@ -100,7 +105,7 @@ abbrev pub IndexesTellTheOrder : Type 0
 IndexesTellTheOrder = (ops : List Op) (a b : Track) (i j : ℕ) → AreApplied ops
     → slice_get (places_in_order ops) i ≡ Some (track_place_in ops a.track)
     → slice_get (places_in_order ops) j ≡ Some (track_place_in ops b.track) → track_order ops a b
-        ≡ nat_cmp i j
+    ≡ nat_cmp i j
 
 -- ---- one more operation
 
@@ -140,7 +145,7 @@ pub record ItemsAreOfAKind (o : Op) (r : List Op) : Type 0 where
       → clips_in (o ∷ r) track ≡ clips_in r track
   pub track_alone : is_need_met (o ∷ r) (need_of ClipRole (item_of_op o)) ≡ false
       → tracks_in (o ∷ r) ≡ put (track_order (o ∷ r)) (track_entry (o ∷ r) (item_of_op o))
-          (without (λ (t : Track). t.track) (item_of_op o) (tracks_in r))
+      (without (λ (t : Track). t.track) (item_of_op o) (tracks_in r))
   pub clips_alone : is_need_met (o ∷ r) (need_of TrackRole (item_of_op o)) ≡ false
       → tracks_in (o ∷ r) ≡ map (track_updated (o ∷ r) (item_of_op o)) (tracks_in r)
 
@@ -158,7 +163,7 @@ pub record MarkersAreFound : Type 0 where
   pub there : (r : List Op) (item : Stamp) (m : Marker) → AreApplied r → marker_entry r item
       ≡ Some m
       → without (λ (x : Marker). x.marker) item (markers_in r)
-          ≡ filter (λ (x : Marker). not (is_marker_at m.at item x)) (markers_in r)
+      ≡ filter (λ (x : Marker). not (is_marker_at m.at item x)) (markers_in r)
   pub missing : (r : List Op) (item : Stamp) → AreApplied r → marker_entry r item ≡ None
       → without (λ (x : Marker). x.marker) item (markers_in r) ≡ markers_in r
 
@@ -168,7 +173,7 @@ pub record ClipsAreFound : Type 0 where
   pub there : (r : List Op) (track item : Stamp) (c : Clip) → AreApplied r → clip_on r track item
       ≡ Some c
       → without (λ (x : Clip). x.clip) item (clips_in r track)
-          ≡ filter (λ (x : Clip). not (is_clip_at c.at c.place x)) (clips_in r track)
+      ≡ filter (λ (x : Clip). not (is_clip_at c.at c.place x)) (clips_in r track)
   pub missing : (r : List Op) (track item : Stamp) → AreApplied r → clip_on r track item ≡ None
       → without (λ (x : Clip). x.clip) item (clips_in r track) ≡ clips_in r track
 

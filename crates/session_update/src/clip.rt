@@ -82,8 +82,7 @@ pub fn placed_clip<A: Allocator>(items: &ItemStates<A>, item: Stamp) -> Option<P
 // Removes a clip from its track, if that is shown.
 fn take_off<A: Allocator>(session: &mut Session<A>, found: PlacedClip)
     requires once { DifferBy (λ (t : Track). t.track) session.old.tracks }
-    ensures { session.new ≡ record session.old { tracks = map (clip_off found) session.old.tracks }
-        }
+    ensures { session.new ≡ record session.old { tracks = map (clip_off found) session.old.tracks } }
 {
     let (at, place) = (found.clip.at, found.clip.place);
     match session.index_of_track(found.track) {
@@ -97,8 +96,9 @@ fn take_off<A: Allocator>(session: &mut Session<A>, found: PlacedClip)
 // Removes the clip found before from its track, if one was found and its track is shown.
 fn take_located<A: Allocator>(session: &mut Session<A>, located: Option<PlacedClip>)
     requires once { DifferBy (λ (t : Track). t.track) session.old.tracks }
-    ensures { session.new ≡ record session.old { tracks = tracks_without located session.old.tracks
-        } }
+    ensures { session.new ≡ record session.old {
+      tracks = tracks_without located session.old.tracks;
+    } }
 {
     if let Some(found) = located {
         take_off(session, found);

@@ -73,8 +73,10 @@ pub fn marker_position<A: Allocator>(items: &ItemStates<A>, item: Stamp) -> Opti
 
 // Removes the marker of a stamp from the position where it was found.
 fn take_located<A: Allocator>(session: &mut Session<A>, located: Option<u32>, item: Stamp)
-    ensures { session.new ≡ record session.old { markers = without_located located item
-        session.old.markers } }
+    ensures { session.new ≡ record session.old {
+      markers = without_located located item
+          session.old.markers;
+    } }
 {
     if let Some(at) = located {
         let _taken = session.take_marker(at, item);
@@ -121,8 +123,10 @@ pub fn update_markers<A: Allocator + Clone>(
     requires before { MarkersLocated items.now item located session.old.markers }
     ensures ok { OnOk result (session.new ≡ record session.old { markers = markers_in items.now }) }
     ensures left { OnErr result ((session.new ≡ session.old)
-        ⊎ (session.new ≡ record session.old { markers = without_located located item
-            session.old.markers })) }
+        ⊎ (session.new ≡ record session.old {
+          markers = without_located located item
+              session.old.markers;
+        })) }
 {
     match marker_at(items, item)? {
         Some(view) => put_in(session, located, view),

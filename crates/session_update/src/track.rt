@@ -77,8 +77,7 @@ pub fn track_clips<A: Allocator + Clone>(
 
 // Whether the session shows the track of a stamp.
 fn is_shown<A: Allocator>(items: &ItemStates<A>, item: Stamp) -> bool
-    ensures { result ≡ (is_need_met items.now (need_of TrackRole item) && is_present items.now item)
-        }
+    ensures { result ≡ (is_need_met items.now (need_of TrackRole item) && is_present items.now item) }
 {
     let need = Need {
         stamp: item,

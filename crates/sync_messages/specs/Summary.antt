@@ -51,7 +51,7 @@ summary_after (Some n) [] = n ∷ []
 summary_after None (o ∷ ops) = summary_after (Some (numbers_of (op_dot o))) ops
 summary_after (Some n) (o ∷ ops) =
     if n.replica.0 == (op_dot o).replica.0 then summary_after (Some (with_number n (op_dot o).seq))
-        ops
+    ops
     else n ∷ summary_after (Some (numbers_of (op_dot o))) ops
 
 -- the summary of a set: it covers exactly the set's dots, and no run could be longer

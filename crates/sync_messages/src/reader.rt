@@ -66,8 +66,11 @@ fn run_of(bytes: &[u8]) -> Result<(u64, &[u8]), ReadFault>
 // Whether there is any number.
 fn has_some(run: u64, extras: &[u64]) -> bool
     requires { run ≤ greatest }
-    ensures { result ≡ has_some (record { replica = record { 0 = 0 }; run = run; extras = extras.now
-        }) }
+    ensures { result ≡ has_some (record {
+      replica = record { 0 = 0 };
+      run = run;
+      extras = extras.now;
+    }) }
 {
     run > 0 || !extras.is_empty()
 }

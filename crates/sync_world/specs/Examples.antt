@@ -41,7 +41,7 @@ restarting = Edits 0 (AddMarker 1 (codes "X")) ∷ Restarts 0 ∷ Edits 0 (AddMa
 abbrev pub RestartedWorld : Type 0
 RestartedWorld = Shows (world_of two restarting) (adds (by 1 10 1) 2 (codes "Y") ∷ [])
     (shown (marker (by 1 10 1) 2 (codes "Y") ∷ []) 0 ∷ shown (marker (by 1 10 1) 2 (codes "Y") ∷ [])
-        0 ∷ [])
+    0 ∷ [])
 
 -- A restart undoes what was taken and made since the last save, and what was saved stays.
 abbrev pub losing : List Event
@@ -52,7 +52,7 @@ abbrev pub LostRemoval : Type 0
 LostRemoval = Shows (world_of two losing) (adds (by 1 10 1) 1 (codes "X")
     ∷ adds (by 1 11 1) 2 (codes "Y") ∷ [])
     (shown (marker (by 1 10 1) 1 (codes "X") ∷ marker (by 1 11 1) 2 (codes "Y") ∷ []) 0
-        ∷ shown (marker (by 1 11 1) 2 (codes "Y") ∷ []) 0 ∷ [])
+    ∷ shown (marker (by 1 11 1) 2 (codes "Y") ∷ []) 0 ∷ [])
 
 -- An operation that arrives before what it needs waits for it.
 abbrev pub retitling : List Event

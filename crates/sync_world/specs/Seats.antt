@@ -11,8 +11,12 @@ use Rattle.sync_world.specs.declared.seat.Peer.{Peer as PeerFields}
 use Rattle.sync_world.specs.World.{Peer, World, is_sent}
 
 abbrev pub peer_from : Editor → LogMap → Peer
-peer_from kept saved = record { name = kept.name; taken = unwrap_or kept.log map.empty; saved =
-    saved }
+peer_from kept saved = record {
+  name = kept.name;
+  taken = unwrap_or kept.log map.empty;
+  saved =
+      saved;
+}
 
 abbrev pub peer_of : {A : Type 0} → PeerFields A → Peer
 peer_of seat = peer_from seat.editor seat.saved

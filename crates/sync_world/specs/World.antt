@@ -39,8 +39,11 @@ pub data Event : Type 0 where
 
 -- the operation that an edit makes is added to what was taken; a refused edit changes nothing
 abbrev pub with_made : Peer → Result Op EditorFault → Peer
-with_made peer (Ok o) = record { name = peer.name; taken = with_op peer.taken o; saved = peer.saved
-    }
+with_made peer (Ok o) = record {
+  name = peer.name;
+  taken = with_op peer.taken o;
+  saved = peer.saved;
+}
 with_made peer (Err fault) = peer
 
 -- An edit is made on the set that was taken.
@@ -80,13 +83,18 @@ where_there world (Some peer) change = change peer
 
 -- the world with another state of one editor
 abbrev pub with_peer : World → ℕ → Peer → World
-with_peer world editor peer = record { peers = slice_set world.peers editor peer; sent = world.sent
-    }
+with_peer world editor peer = record {
+  peers = slice_set world.peers editor peer;
+  sent = world.sent;
+}
 
 -- the world with one editor's state saved, and with all its unsent operations sent
 abbrev pub with_saved : World → ℕ → Peer → World
-with_saved world editor peer = record { peers = slice_set world.peers editor (saving peer); sent =
-    world.sent ++ unsent world.sent peer.taken }
+with_saved world editor peer = record {
+  peers = slice_set world.peers editor (saving peer);
+  sent =
+      world.sent ++ unsent world.sent peer.taken;
+}
 
 -- The world after one more event.
 abbrev pub step : World → Event → World

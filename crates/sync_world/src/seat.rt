@@ -73,8 +73,7 @@ impl<A: Allocator + Clone> Peer<A> {
     /// The editor makes an edit. An edit that is refused changes nothing.
     pub fn edit(&mut self, change: &Change<A>) -> Result<(), AllocError>
         requires whole { IsWhole self.old }
-        ensures ok { OnOk result (peer_of self.new ≡ edited (peer_of self.old) (edit_of change.now))
-            }
+        ensures ok { OnOk result (peer_of self.new ≡ edited (peer_of self.old) (edit_of change.now)) }
         ensures whole { OnOk result (IsWhole self.new) }
     {
         holds_a_set(&self.editor);

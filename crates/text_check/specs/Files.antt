@@ -16,8 +16,12 @@ pub record GivenFile : Type 0 where
 
 -- the recording of these bytes, or why they are not a wave file
 abbrev pub recording_of : List ℕ → Option WaveFault → Result Recording WaveFault
-recording_of bytes None = Ok (record { digest = record { 0 = sha256 bytes }; rate = rate_of bytes;
-    channels = channels_of bytes; frames = frames_of bytes })
+recording_of bytes None = Ok (record {
+  digest = record { 0 = sha256 bytes };
+  rate = rate_of bytes;
+  channels = channels_of bytes;
+  frames = frames_of bytes;
+})
 recording_of bytes (Some fault) = Err fault
 
 -- a file of this name and these bytes

@@ -32,8 +32,12 @@ end_of (c ∷ cs) = max (c.offset + c.len) (end_of cs)
 
 -- the use of a recording by these clips; `heard` are the audible ones
 abbrev pub use_by : List Clip → List Clip → Digest → Use
-use_by clips heard d = record { clips = length (playing d clips); audible = length
-    (playing d heard); end = end_of (playing d clips) }
+use_by clips heard d = record {
+  clips = length (playing d clips);
+  audible = length
+      (playing d heard);
+  end = end_of (playing d clips);
+}
 
 -- The use of a recording by a session: how many clips play it, how many of these are audible as in
 -- a mix (not muted, on a track that is not muted, though others may cover them), and how far into

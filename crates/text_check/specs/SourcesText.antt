@@ -26,15 +26,15 @@ abbrev pub found_text : Option FoundFile → List ℕ
 found_text None = codes " missing"
 found_text (Some f) =
     codes " rate " ++ (decimal f.recording.rate ++ (codes " channels "
-        ++ (decimal f.recording.channels ++ (codes " frames "
-        ++ (decimal f.recording.frames ++ (codes " file " ++ f.name))))))
+    ++ (decimal f.recording.channels ++ (codes " frames "
+    ++ (decimal f.recording.frames ++ (codes " file " ++ f.name))))))
 
 -- `source DIGEST clips N audible N end N`, and the found file
 abbrev pub source_line : Digest → Use → Option FoundFile → List ℕ
 source_line d u f =
     codes "source " ++ (digest_text d ++ (codes " clips "
-        ++ (decimal u.clips ++ (codes " audible " ++ (decimal u.audible
-        ++ (codes " end " ++ (decimal u.end ++ (found_text f ++ newline ∷ []))))))))
+    ++ (decimal u.clips ++ (codes " audible " ++ (decimal u.audible
+    ++ (codes " end " ++ (decimal u.end ++ (found_text f ++ newline ∷ []))))))))
 
 -- ---- the line of a file
 
@@ -66,7 +66,7 @@ abbrev pub sources_text : List Track → List GivenFile → List ℕ
 sources_text tracks files =
     flat_map (λ d. source_line d (use_of tracks d) (first_of files d)) (named tracks)
     ++ (flat_map (λ f. other_line (use_of tracks) f.name f.recording) files
-        ++ missing_line (length (missing tracks files)))
+    ++ missing_line (length (missing tracks files)))
 
 -- only the digests that no file has
 abbrev pub missing_text : List Track → List GivenFile → List ℕ

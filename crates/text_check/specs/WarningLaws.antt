@@ -47,5 +47,5 @@ HeldHaveALine = (ops : List Op) → AreLogged ops → length (held_lines ops) �
 abbrev pub OnlyAudibleAreTold : Type 0
 OnlyAudibleAreTold =
     (tracks : List Track) (layout : Format) (a b : Sources) (markers : List Marker) (ops : List Op)
-        → FindAlike tracks a b → warnings_text (over tracks layout a) markers ops
-        ≡ warnings_text (over tracks layout b) markers ops
+    → FindAlike tracks a b → warnings_text (over tracks layout a) markers ops
+    ≡ warnings_text (over tracks layout b) markers ops

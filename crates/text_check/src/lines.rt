@@ -35,8 +35,11 @@ impl<A: Allocator> Lines<A> {
     /// Counts a line that was written. Fails, as if out of memory, if the count does not fit into
     /// 64 bits.
     pub(crate) fn count_one(&mut self) -> Result<(), AllocError>
-        ensures { OnOk result (self.new ≡ record { text = self.old.text; count = self.old.count
-            + 1 }) }
+        ensures { OnOk result (self.new ≡ record {
+          text = self.old.text;
+          count = self.old.count
+              + 1;
+        }) }
     {
         match self.count.checked_add(1) {
             Some(count) => {

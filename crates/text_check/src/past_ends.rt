@@ -34,7 +34,7 @@ fn append_past_end<A: Allocator>(
 ) -> Result<(), AllocError>
     ensures { OnOk result (lines.new ≡ with_lines lines.old
         (line_where (nat_lt frames (clip.now.offset + clip.now.len)) (past_end_line clip.now.clip
-            (clip.now.offset + clip.now.len) frames))) }
+        (clip.now.offset + clip.now.len) frames))) }
 {
     if !goes_past(clip, frames) {
         return Ok(());

@@ -85,8 +85,7 @@ pub(crate) fn append_refused_line<A: Allocator>(
     name: &str,
 ) -> Result<(), AllocError>
     ensures { OnOk result (string_bytes text.new ≡ string_bytes text.old
-        ++ (codes "refused " ++ (decimal number ++ (codes " file " ++ (name.now ++ newline ∷ [])))))
-        }
+        ++ (codes "refused " ++ (decimal number ++ (codes " file " ++ (name.now ++ newline ∷ []))))) }
 {
     append_number(text, "refused ", u64::from(number))?;
     append_word(text, " file ", name)?;

@@ -62,8 +62,7 @@ fn append_source_lines<A: Allocator, B: Allocator>(
     firsts: &BTreeMap<Digest, Found<'_>, A>,
 ) -> Result<(), AllocError>
     ensures { OnOk result (string_bytes text.new ≡ string_bytes text.old
-        ++ flat_map (λ d. source_line d (noted uses.now d) (get digest_cmp firsts.now d)) named.now)
-        }
+        ++ flat_map (λ d. source_line d (noted uses.now d) (get digest_cmp firsts.now d)) named.now) }
 {
     for digest in named {
         let made = noted(uses, digest);

@@ -43,8 +43,7 @@ fn mark_all(segments: &[Segment], marks: &mut [bool])
     requires within { (k : ℕ) → k < length segments.now → (segment_at segments.now k).which
         < length marks.old }
     ensures length { length marks.new ≡ length marks.old }
-    ensures each { (i : ℕ) → mark_at marks.new i ≡ (mark_at marks.old i || is_named segments.now i)
-        }
+    ensures each { (i : ℕ) → mark_at marks.new i ≡ (mark_at marks.old i || is_named segments.now i) }
 {
     for index in 0..segments.len() {
         mark(marks, which_at(segments, index));

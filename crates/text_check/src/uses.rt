@@ -45,9 +45,13 @@ fn note_clip<A: Allocator + Clone>(
 ) -> Result<(), AllocError>
     requires few { (noted uses.old clip.now.source).clips + 1 < 2 ^ 64 }
     ensures here { OnOk result (noted uses.new clip.now.source
-        ≡ record { clips = (noted uses.old clip.now.source).clips
-        + 1; audible = (noted uses.old clip.now.source).audible; end = max
-            (noted uses.old clip.now.source).end (clip.now.offset + clip.now.len) }) }
+        ≡ record {
+          clips = (noted uses.old clip.now.source).clips
+              + 1;
+          audible = (noted uses.old clip.now.source).audible;
+          end = max
+              (noted uses.old clip.now.source).end (clip.now.offset + clip.now.len);
+        }) }
     ensures others { OnOk result ((d : DigestOf) → is_same clip.now.source d ≡ false
         → noted uses.new d ≡ noted uses.old d) }
 {
@@ -69,9 +73,13 @@ fn note_audible<A: Allocator + Clone>(
 ) -> Result<(), AllocError>
     requires few { (noted uses.old clip.now.source).audible + 1 < 2 ^ 64 }
     ensures here { OnOk result (noted uses.new clip.now.source
-        ≡ record { clips = (noted uses.old clip.now.source).clips; audible =
-        (noted uses.old clip.now.source).audible + 1; end =
-            (noted uses.old clip.now.source).end }) }
+        ≡ record {
+          clips = (noted uses.old clip.now.source).clips;
+          audible =
+              (noted uses.old clip.now.source).audible + 1;
+          end =
+              (noted uses.old clip.now.source).end;
+        }) }
     ensures others { OnOk result ((d : DigestOf) → is_same clip.now.source d ≡ false
         → noted uses.new d ≡ noted uses.old d) }
 {

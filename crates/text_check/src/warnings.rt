@@ -80,7 +80,7 @@ pub fn warnings_text<A: Allocator + Clone, B: Allocator, C: Allocator>(
 ) -> Result<String<A>, AllocError>
     ensures { IfOk result (λ text. string_bytes text
         ≡ warnings_text (over session.now.tracks format catalogue.now) session.now.markers
-            (operations log.now)) }
+        (operations log.now)) }
 {
     let (tracks, markers) = (session.tracks.items(), session.markers.items());
     text_of(&alloc, log, tracks, markers, catalogue, format)

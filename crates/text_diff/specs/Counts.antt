@@ -13,12 +13,12 @@ counted name number = name ++ decimal number
 abbrev pub counts_line : (left right both conflicts : ℕ) → List ℕ
 counts_line left right both conflicts =
     counted (codes "left ") left ++ (counted (codes " right ") right
-        ++ (counted (codes " both ") both ++ (counted (codes " clashes ") conflicts ++ newline
-        ∷ [])))
+    ++ (counted (codes " both ") both ++ (counted (codes " clashes ") conflicts ++ newline
+    ∷ [])))
 
 -- the last line for two logs: a dot that names two operations is counted once, under `clashes`, and
 -- in no other number
 abbrev pub last_line : LogMap → LogMap → List ℕ
 last_line left right =
     counts_line (length (alone left right)) (length (alone right left)) (length (shared left right))
-        (length (conflicting left right))
+    (length (conflicting left right))

@@ -35,4 +35,4 @@ diff_text left right = flat_map told_line (told left right) ++ last_line left ri
 abbrev pub diff_text_with_fields : LogMap → LogMap → List ℕ
 diff_text_with_fields left right =
     flat_map told_line (told left right) ++ (flat_map both_line
-        (both_wrote (alone left right) (alone right left)) ++ last_line left right)
+    (both_wrote (alone left right) (alone right left)) ++ last_line left right)

@@ -11,8 +11,11 @@ pub record PartsOf : Type 0 where
   pub conflicting : List Op
 
 abbrev pub parts_of : LogMap → List Op → PartsOf
-parts_of other ops = record { alone = filter (lacks other) ops; conflicting = filter
-    (has_another other) ops }
+parts_of other ops = record {
+  alone = filter (lacks other) ops;
+  conflicting = filter
+      (has_another other) ops;
+}
 
 abbrev pub both_parts : PartsOf → PartsOf → PartsOf
 both_parts p q = record { alone = p.alone ++ q.alone; conflicting = p.conflicting ++ q.conflicting }

@@ -26,8 +26,11 @@ impl<'a, A: Allocator> Model for Parts<'a, A> {
 
     ghost Value = { PartsOf };
 
-    ghost view = { λ p. record { alone = map (λ o. o.now) p.alone.items; conflicting = map
-        (λ o. o.now) p.conflicting.items } };
+    ghost view = { λ p. record {
+      alone = map (λ o. o.now) p.alone.items;
+      conflicting = map
+          (λ o. o.now) p.conflicting.items;
+    } };
 }
 
 // Whether an operation equals the one that another log has under its dot.

@@ -19,7 +19,7 @@ fn append_lines<A: Allocator + Clone>(
 ) -> Result<(), AllocError>
     ensures { OnOk result (text.new.items ≡ text.old.items
         ++ (lines_alone (codes "- ") left.now right.now ++ lines_alone
-            (codes "+ ") right.now left.now)) }
+        (codes "+ ") right.now left.now)) }
 {
     let left_text = view_text(alloc, left)?;
     let right_text = view_text(alloc, right)?;

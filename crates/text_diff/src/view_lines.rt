@@ -45,7 +45,7 @@ fn sorted_lines<'a, A: Allocator>(
         sorted.items) }
     ensures same { IfOk result (λ sorted. (line : List ℕ)
         → is_among (map (λ l. l.now) sorted.items) line ≡ is_among (map (λ l. l.now) lines.now)
-            line) }
+        line) }
 {
     let mut sorted = Vec::with_capacity(alloc, lines.len())?;
     sorted.extend_from_slice(lines)?;
@@ -85,7 +85,7 @@ fn append_not_among<A: Allocator>(
     requires { IsSorted (λ a b. slice_cmp nat_cmp a.now b.now) others.now }
     ensures { OnOk result (text.new.items ≡ text.old.items
         ++ flat_map (marked_line mark.now) (not_among (map (λ l. l.now) others.now)
-            (map (λ l. l.now) lines.now))) }
+        (map (λ l. l.now) lines.now))) }
 {
     for line in lines {
         if !is_among(others, *line) {
@@ -105,7 +105,7 @@ pub(crate) fn append_alone<A: Allocator + Clone>(
 ) -> Result<(), AllocError>
     ensures { OnOk result (text.new.items ≡ text.old.items
         ++ flat_map (marked_line mark.now) (not_among (map (λ l. l.now) others.now)
-            (map (λ l. l.now) lines.now))) }
+        (map (λ l. l.now) lines.now))) }
 {
     let sorted = sorted_lines(alloc.clone()?, others)?;
     append_not_among(text, mark, lines, &sorted)

@@ -63,20 +63,34 @@ pub record Reading : Type 0 where
 
 -- a word that is the first of a slot
 abbrev pub slot_reading : Slot → Pending → List ℕ → List (List ℕ) → Reading
-slot_reading s next w ws = record { part = record { key = None; name = name_text s.name; value =
-    value_at s.form w ws }; more = more_at s.form ws; pending = next }
+slot_reading s next w ws = record {
+  part = record {
+    key = None;
+    name = name_text s.name;
+    value =
+        value_at s.form w ws;
+  };
+  more = more_at s.form ws;
+  pending = next;
+}
 
 -- a word without a value
 abbrev pub alone_reading : List ℕ → Pending → Reading
-alone_reading w next = record { part = record { key = Some w; name = w; value = alone }; more = 0;
-    pending = next }
+alone_reading w next = record {
+  part = record { key = Some w; name = w; value = alone };
+  more = 0;
+  pending = next;
+}
 
 -- a key before a value of this name; at the end of the line it has no value
 abbrev pub key_reading : List ℕ → Arity → Pending → List ℕ → List (List ℕ) → Reading
 key_reading called form next w [] = alone_reading w next
-key_reading called form next w (v ∷ ws) = record { part = record
-    { key = Some w; name = called; value = value_at form v ws }; more = suc (more_at form ws);
-    pending = next }
+key_reading called form next w (v ∷ ws) = record {
+  part = record
+      { key = Some w; name = called; value = value_at form v ws };
+  more = suc (more_at form ws);
+  pending = next;
+}
 
 -- a word after the last slot: a key, which names its value, or a word without a value
 abbrev pub formed_reading : Option Arity → List ℕ → List (List ℕ) → Reading

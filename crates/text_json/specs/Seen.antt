@@ -21,8 +21,12 @@ value_of (code.Rest text) = rest text.now
 value_of (code.All kind text) = all kind (words text.now)
 
 abbrev pub part_of : CodePart → Part
-part_of p = record { key = option_map (λ w. w.now) p.key; name = p.name.now; value = value_of
-    p.value }
+part_of p = record {
+  key = option_map (λ w. w.now) p.key;
+  name = p.name.now;
+  value = value_of
+      p.value;
+}
 
 abbrev pub pending_of : CodePending → Pending
 pending_of next.Begin = begin

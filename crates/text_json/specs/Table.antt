@@ -21,13 +21,13 @@ is_one_of (w ∷ ws) word = if bytes_eq word w then true else is_one_of ws word
 abbrev pub plain_keys : List (List ℕ)
 plain_keys =
     codes "track" ∷ codes "clip" ∷ codes "marker" ∷ codes "place" ∷ codes "source" ∷ codes "digest"
-        ∷ []
+    ∷ []
 
 -- keys before such a word, in the lines of `sources` and `check`
 abbrev pub finding_keys : List (List ℕ)
 finding_keys =
     codes "unused" ∷ codes "needs" ∷ codes "covered" ∷ codes "past-end" ∷ codes "one-channel"
-        ∷ codes "behind" ∷ []
+    ∷ codes "behind" ∷ []
 
 -- keys before a position or a length in frames
 abbrev pub frames_keys : List (List ℕ)
@@ -39,19 +39,19 @@ frames_keys = codes "at" ∷ codes "offset" ∷ codes "len" ∷ codes "end" ∷ 
 abbrev pub count_keys : List (List ℕ)
 count_keys =
     codes "held" ∷ codes "operations" ∷ codes "warnings" ∷ codes "clips" ∷ codes "audible"
-        ∷ codes "refused" ∷ codes "missing" ∷ []
+    ∷ codes "refused" ∷ codes "missing" ∷ []
 
 -- keys before a number: of two logs, and of a recording
 abbrev pub number_keys : List (List ℕ)
 number_keys =
     codes "left" ∷ codes "right" ∷ codes "both" ∷ codes "clashes" ∷ codes "rate" ∷ codes "channels"
-        ∷ codes "bits" ∷ codes "bext" ∷ codes "cue" ∷ []
+    ∷ codes "bits" ∷ codes "bext" ∷ codes "cue" ∷ []
 
 -- keys before a text up to the end of the line
 abbrev pub rest_keys : List (List ℕ)
 rest_keys =
     codes "title" ∷ codes "label" ∷ codes "description" ∷ codes "originator" ∷ codes "reference"
-        ∷ codes "date" ∷ codes "time" ∷ codes "history" ∷ codes "file" ∷ []
+    ∷ codes "date" ∷ codes "time" ∷ codes "history" ∷ codes "file" ∷ []
 
 -- the form of what follows one of the remaining keys
 abbrev pub single_form : List ℕ → Option Arity
@@ -116,9 +116,11 @@ title = slot name.Title Rest
 abbrev pub acts : List (List ℕ × List Slot)
 acts =
     (codes "add-track", plain name.After ∷ title ∷ []) ∷
-    (codes "move-track", plain name.Track ∷ plain name.After ∷ []) ∷
-    (codes "add-clip", plain name.Source ∷ plain name.Track ∷ frames name.At ∷ frames name.Offset
-        ∷ frames name.Len ∷ []) ∷
+    (codes "move-track", plain name.Track ∷ plain name.After ∷ []) ∷ (
+      codes "add-clip",
+      plain name.Source ∷ plain name.Track ∷ frames name.At ∷ frames name.Offset
+          ∷ frames name.Len ∷ [],
+    ) ∷
     (codes "move-clip", plain name.Clip ∷ plain name.Track ∷ frames name.At ∷ []) ∷
     (codes "trim-clip", plain name.Clip ∷ frames name.Offset ∷ frames name.Len ∷ []) ∷
     (codes "gain", plain name.Item ∷ slot name.Gain (One Gain) ∷ []) ∷

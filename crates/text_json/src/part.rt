@@ -68,8 +68,7 @@ fn take_two<'a>(kind: Kind, cut: Cut<'a>) -> (Value<'a>, Option<&'a [u8]>)
 
 // The value of a slot of this form at a word, and the rest of the line.
 fn take<'a>(form: Arity, cut: Cut<'a>) -> (Value<'a>, Option<&'a [u8]>)
-    ensures value { value_of result.0 ≡ value_at form cut.entry.word.now (words_left cut.entry.left)
-        }
+    ensures value { value_of result.0 ≡ value_at form cut.entry.word.now (words_left cut.entry.left) }
     ensures left { words_left result.1 ≡ drop (more_at form (words_left cut.entry.left))
         (words_left cut.entry.left) }
     ensures shorter { length_left result.1 ≤ length cut.entry.text.now }

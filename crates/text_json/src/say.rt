@@ -42,8 +42,7 @@ fn append_timed<A: Allocator>(
     word: &[u8],
 ) -> Result<(), AllocError>
     requires { 1 ≤ rate }
-    ensures { OnOk result (text.new.items ≡ text.old.items ++ timed_word rate Kind.Frames word.now)
-        }
+    ensures { OnOk result (text.new.items ≡ text.old.items ++ timed_word rate Kind.Frames word.now) }
 {
     let Some(frames) = number_of(word) else {
         return text.extend_from_slice(word);
@@ -62,8 +61,7 @@ fn append_frames<A: Allocator>(
     word: &[u8],
 ) -> Result<(), AllocError>
     requires { 1 ≤ rate }
-    ensures { OnOk result (text.new.items ≡ text.old.items ++ plain_word rate Kind.Frames word.now)
-        }
+    ensures { OnOk result (text.new.items ≡ text.old.items ++ plain_word rate Kind.Frames word.now) }
 {
     match frames_of(rate, word) {
         Some(frames) => append_decimal(text, u64::from(frames)),
@@ -93,8 +91,7 @@ pub(crate) fn append_word<A: Allocator>(
     word: &[u8],
 ) -> Result<(), AllocError>
     requires { 1 ≤ rate }
-    ensures { OnOk result (text.new.items ≡ text.old.items ++ said_word telling rate kind word.now)
-        }
+    ensures { OnOk result (text.new.items ≡ text.old.items ++ said_word telling rate kind word.now) }
 {
     match (telling, kind) {
         (Telling::InTimes, Kind::Frames) => append_timed(text, rate, word),

@@ -46,7 +46,7 @@ act_text (AddTrack after title) = codes "add-track" ++ (after_word after ++ word
 act_text (MoveTrack track after) = codes "move-track" ++ (stamp_word track ++ after_word after)
 act_text (AddClip source track at offset len) =
     codes "add-clip" ++ (word (digest_text source) ++ (stamp_word track
-        ++ (number_word at ++ (number_word offset ++ number_word len))))
+    ++ (number_word at ++ (number_word offset ++ number_word len))))
 act_text (MoveClip clip track at) = codes "move-clip"
     ++ (stamp_word clip ++ (stamp_word track ++ number_word at))
 act_text (TrimClip clip offset len) = codes "trim-clip"

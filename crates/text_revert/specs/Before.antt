@@ -91,8 +91,13 @@ pub record TakenBack : Type 0 where
   pub back : Option (Written Body)
 
 abbrev pub taken_after : LogMap → List Op → Op → TakenBack
-taken_after log ops o = record { op = o; ready = are_needs_met ops o; present = is_present ops
-    (op_item o.stamp o.act); back = standing log ops o.act }
+taken_after log ops o = record {
+  op = o;
+  ready = are_needs_met ops o;
+  present = is_present ops
+      (op_item o.stamp o.act);
+  back = standing log ops o.act;
+}
 
 abbrev pub taken_back : LogMap → Op → TakenBack
 taken_back log o = taken_after log (before log o) o

@@ -17,13 +17,21 @@ third = record { clock = 3; replica = record { 0 = 11 }; seq = 1 }
 
 -- a move of the marker that was added first, after the value of another write
 abbrev pub moved : Stamp → Stamp → TakenBack
-moved own writer = record { op = record { stamp = own; act = MoveMarker first 5 }; ready = true;
-    present = true; back = Some (record { writer = writer; value = MoveMarker first 4 }) }
+moved own writer = record {
+  op = record { stamp = own; act = MoveMarker first 5 };
+  ready = true;
+  present = true;
+  back = Some (record { writer = writer; value = MoveMarker first 4 });
+}
 
 -- a restore of the marker, while it was present or absent
 abbrev pub restored : Stamp → Bool → TakenBack
-restored own present = record { op = record { stamp = own; act = Restore first }; ready = true;
-    present = present; back = None }
+restored own present = record {
+  op = record { stamp = own; act = Restore first };
+  ready = true;
+  present = present;
+  back = None;
+}
 
 -- no operation is taken back
 pub none_back : writer_left third [] ≡ third

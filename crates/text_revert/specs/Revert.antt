@@ -91,7 +91,7 @@ field_line act (Some absent) own writer = codes "# "
     ++ (act_text act ++ (codes ": " ++ (stamp_text absent ++ codes " is absent")))
 field_line act None own writer =
     if stamp_eq writer own then act_text act else codes "# "
-        ++ (act_text act ++ (codes ": " ++ (stamp_text writer ++ codes " has changed it since")))
+    ++ (act_text act ++ (codes ": " ++ (stamp_text writer ++ codes " has changed it since")))
 
 -- the line of a ready operation; `last` is the stamp of the last write to its field
 abbrev pub ready_line : List Op → List TakenBack → TakenBack → Stamp → Option (Written Body)
@@ -100,7 +100,7 @@ ready_line ops behind t last None = presence_line t.present
     (is_there ops behind (op_item t.op.stamp t.op.act)) (op_item t.op.stamp t.op.act)
 ready_line ops behind t last (Some back) =
     field_line back.value (first_absent (is_there ops behind) (op_item t.op.stamp t.op.act)
-        back.value) t.op.stamp (writer_left last behind)
+    back.value) t.op.stamp (writer_left last behind)
 
 -- the stamp of the last write to the field that an operation writes
 abbrev pub last_writer : LogMap → List Op → Op → Stamp

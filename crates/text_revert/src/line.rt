@@ -59,7 +59,7 @@ fn append_remark<A: Allocator, B: Allocator, C: Allocator>(
 ) -> Result<(), AllocError>
     ensures { OnOk result (string_bytes text.new ≡ string_bytes text.old
         ++ (codes "# " ++ (act_text (act_of body.now) ++ (codes ": " ++ (stamp_text stamp
-            ++ why.now))))) }
+        ++ why.now))))) }
 {
     text.push_str("# ")?;
     append_act(alloc, text, body)?;
@@ -99,7 +99,7 @@ fn append_ready<A: Allocator + Clone, B: Allocator>(
 ) -> Result<(), AllocError>
     ensures { OnOk result (string_bytes text.new ≡ string_bytes text.old
         ++ ready_line items.now behind.now taken.now
-            (last_writer log.now items.now taken.now.op) taken.now.back) }
+        (last_writer log.now items.now taken.now.op) taken.now.back) }
 {
     let item = taken.op.item();
     let Some(back) = &taken.back else {

@@ -29,8 +29,12 @@ impl<'a, A: Allocator> Model for TakenBack<'a, A> {
 
     ghost Value = { TakenOf };
 
-    ghost view = { λ t. record { op = t.op.now; ready = t.ready; present = t.present; back = t.back
-        } };
+    ghost view = { λ t. record {
+      op = t.op.now;
+      ready = t.ready;
+      present = t.present;
+      back = t.back;
+    } };
 }
 
 /// Operations that are taken back, by rising stamp, and the state after all operations of the log.
@@ -75,7 +79,7 @@ fn push_taken<'a, A: Allocator + Clone>(
     requires rise { Rises stamp_cmp stamps.now }
     ensures { OnOk result (all.new.items ≡ all.old.items
         ++ map (taken_after log.now items.now) (filter (λ o. is_listed stamps.now o.stamp)
-            (op.now ∷ []))) }
+        (op.now ∷ []))) }
 {
     if is_among(stamps, op.stamp()) {
         all.push(taken_after(items, log, op)?)?;

@@ -21,8 +21,8 @@ use Rattle.text_svg.specs.XmlText.{escaped, numbered, title_text}
 abbrev pub area : (x y width height : ℕ) → List ℕ
 area x y width height =
     numbered (codes " x=\"") x ++ (numbered (codes "\" y=\"") y
-        ++ (numbered (codes "\" width=\"") width ++ (numbered (codes "\" height=\"") height
-        ++ codes "\"")))
+    ++ (numbered (codes "\" width=\"") width ++ (numbered (codes "\" height=\"") height
+    ++ codes "\"")))
 
 abbrev pub rect : (x y width height : ℕ) → List ℕ
 rect x y width height = codes "<rect" ++ (area x y width height ++ codes "/>")
@@ -31,7 +31,7 @@ rect x y width height = codes "<rect" ++ (area x y width height ++ codes "/>")
 abbrev pub vertical : List ℕ → (x top bottom : ℕ) → List ℕ
 vertical class x top bottom =
     codes "<path class=\"" ++ (class ++ (numbered (codes "\" d=\"M") x
-        ++ (numbered (codes " ") top ++ (numbered (codes "V") bottom ++ codes "\"/>"))))
+    ++ (numbered (codes " ") top ++ (numbered (codes "V") bottom ++ codes "\"/>"))))
 
 -- ` NUM/DEN`, if it is not 1/1
 abbrev pub gain_text : Gain → List ℕ
@@ -55,7 +55,7 @@ abbrev pub tick : (x bottom second : ℕ) → List ℕ
 tick x bottom second =
     vertical (codes "tick") x 18 bottom
     ++ (numbered (codes "<text class=\"time\" x=\"") x
-        ++ (codes "\" y=\"14\">" ++ (time_text second ++ codes "</text>\n")))
+    ++ (codes "\" y=\"14\">" ++ (time_text second ++ codes "</text>\n")))
 
 -- this many times, from 0 on in steps of this many seconds
 abbrev pub ticks_by : (step count rate span bottom : ℕ) → List ℕ
@@ -77,7 +77,7 @@ rising long = numbered (codes "<path class=\"fade\" d=\"M0 32l") long
 abbrev pub falling : (width long : ℕ) → List ℕ
 falling width long =
     numbered (codes "<path class=\"fade\" d=\"M") width
-        ++ (numbered (codes " 32l-") long ++ (numbered (codes " -32h") long ++ codes "z\"/>"))
+    ++ (numbered (codes " 32l-") long ++ (numbered (codes " -32h") long ++ codes "z\"/>"))
 
 -- fades over this many frames, if there are any
 abbrev pub fade_in : (span frames : ℕ) → List ℕ
@@ -107,28 +107,28 @@ clip_text sources span c =
     clip_head (x_at span c.at) (width span c.at c.len) c.mute
     ++ (clip_body span (width span c.at c.len) c.clip c.fade_in c.fade_out
     ++ (clip_peaks (found sources c.source) span c ++ (clip_label c.source c.gain
-        ++ codes "</svg>\n")))
+    ++ codes "</svg>\n")))
 
 -- ---- tracks
 
 abbrev pub track_head : ℕ → Bool → List ℕ
 track_head index mute =
     codes "<g class=\"track" ++ (mute_text mute ++ (numbered
-        (codes "\" transform=\"translate(0 ") (row_top index) ++ codes ")\">\n"))
+    (codes "\" transform=\"translate(0 ") (row_top index) ++ codes ")\">\n"))
 
 -- the title, the gain, and whether the track is muted
 abbrev pub track_label : List ℕ → Gain → Bool → List ℕ
 track_label title gain mute =
     codes "<svg width=\"192\" height=\"40\">" ++ (title_text title
-        ++ (codes "<text x=\"8\" y=\"17\">" ++ (escaped title
+    ++ (codes "<text x=\"8\" y=\"17\">" ++ (escaped title
     ++ (codes "</text><text class=\"sound\" x=\"8\" y=\"33\">"
-        ++ (gain_text gain ++ (mute_text mute ++ codes "</text></svg>\n"))))))
+    ++ (gain_text gain ++ (mute_text mute ++ codes "</text></svg>\n"))))))
 
 abbrev pub track_text : Sources → (span index : ℕ) → Track → List ℕ
 track_text sources span index t =
     track_head index t.mute ++ (track_label t.title t.gain t.mute
     ++ (codes "<rect class=\"row\" x=\"200\" y=\"2\" width=\"1200\" height=\"36\"/>\n"
-        ++ (flat_map (clip_text sources span) t.clips ++ codes "</g>\n")))
+    ++ (flat_map (clip_text sources span) t.clips ++ codes "</g>\n")))
 
 -- ---- markers
 
@@ -162,7 +162,7 @@ abbrev pub head : ℕ → List ℕ
 head height =
     numbered (codes "<svg xmlns=\"http://www.w3.org/2000/svg\" width=\"1560\" height=\"") height
     ++ (numbered (codes "\" viewBox=\"0 0 1560 ") height
-        ++ codes "\" font-family=\"sans-serif\" font-size=\"13\">\n")
+    ++ codes "\" font-family=\"sans-serif\" font-size=\"13\">\n")
 
 abbrev pub style : List ℕ
 style =
@@ -181,7 +181,7 @@ abbrev pub picture : (rate span bottom : ℕ) → Sources → Session → List �
 picture rate span bottom sources c =
     head (bottom + 8) ++ (style ++ (ground (bottom + 8) ++ (ticks rate span bottom
     ++ (each (track_text sources span) 0 c.tracks ++ (each (marker_text span bottom) 0 c.markers
-        ++ codes "</svg>\n")))))
+    ++ codes "</svg>\n")))))
 
 -- the picture of a session, at a rate in frames per second, with the available recordings
 abbrev pub svg_text : ℕ → Sources → Session → List ℕ

@@ -107,8 +107,7 @@ fn append_clip_body<A: Allocator>(
     frames_out: u32,
 ) -> Result<(), AllocError>
     requires { 1 ≤ span }
-    ensures { OnOk result (Adds text.old text.new (clip_body span width stamp frames_in frames_out))
-        }
+    ensures { OnOk result (Adds text.old text.new (clip_body span width stamp frames_in frames_out)) }
 {
     append(text, "<title>")?;
     append_stamp(text, stamp)?;

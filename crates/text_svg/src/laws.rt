@@ -21,7 +21,7 @@ pub fn peak_is_greatest()
         → magnitude recording channel frame ≤ peak recording first count }
     ensures reached { (recording : List ℕ) (first count : ℕ) → 0 < peak recording first count
         → (channel : ℕ) × ((frame : ℕ) × (IsHeard recording first count channel frame
-            × (magnitude recording channel frame ≡ peak recording first count))) }
+        × (magnitude recording channel frame ≡ peak recording first count))) }
 {}
 
 /// If no recording is available, the picture is the one without recordings: no box has an element

@@ -113,8 +113,7 @@ fn append_peaks_of<A: Allocator, B: Allocator + Clone>(
 ) -> Result<(), AllocError>
     requires some { 1 ≤ span }
     requires span { span ≤ 2 ^ 33 }
-    ensures { OnOk result (Adds text.old text.new (path_of_any (all_lines wave.now span clip.now)))
-        }
+    ensures { OnOk result (Adds text.old text.new (path_of_any (all_lines wave.now span clip.now))) }
 {
     let mut drawn = String::new(alloc.clone()?);
     append_lines(&mut drawn, wave, span, clip)?;

@@ -136,12 +136,12 @@ mute_text mute = if mute then codes " mute" else []
 abbrev pub markers_line : ℕ → ℕ → ℕ → List Marker → List ℕ
 markers_line label width frames markers =
     label_text label (codes "markers") ++ (codes " " ++
-        (marker_marks frames (marker_extents markers) width ++ newline ∷ []))
+    (marker_marks frames (marker_extents markers) width ++ newline ∷ []))
 
 abbrev pub track_line : ℕ → ℕ → ℕ → Track → List ℕ
 track_line label width frames t =
     label_text label t.title ++ (codes " " ++ (marks (track_mark frames t.mute t.clips) width
-        ++ (gain_text t.gain ++ (mute_text t.mute ++ newline ∷ []))))
+    ++ (gain_text t.gain ++ (mute_text t.mute ++ newline ∷ []))))
 
 -- ---- times
 
@@ -163,7 +163,7 @@ abbrev pub lines : ℕ → SpanUnits → ℕ → ℕ → ℕ → Session → Lis
 lines width lengths rate all frames c =
     markers_line (label_width c.tracks) width frames c.markers
     ++ (flat_map (track_line (label_width c.tracks) width frames) c.tracks
-        ++ span_line lengths rate all frames)
+    ++ span_line lengths rate all frames)
 
 -- The timeline of a session. For a session without clips and markers it has one frame per column,
 -- no marks, and a span of 0.

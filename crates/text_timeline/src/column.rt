@@ -138,8 +138,7 @@ pub(crate) fn marker_cells<A: Allocator + Clone, B: Allocator>(
 ) -> Result<Vec<Cell, A>, AllocError>
     requires some { 1 ≤ frames }
     requires frames { frames ≤ 2 ^ 33 }
-    ensures { IfOk result (λ cells. AreCells frames width (marker_extents markers.now) cells.items)
-        }
+    ensures { IfOk result (λ cells. AreCells frames width (marker_extents markers.now) cells.items) }
 {
     let mut columns = no_columns(alloc.clone()?, width)?;
     note_markers(&mut columns, frames, markers);

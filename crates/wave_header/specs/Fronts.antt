@@ -29,4 +29,4 @@ pub record BeginsSamples (front : List ℕ) (at len : ℕ) : Type 0 where
 abbrev pub head_of : List ℕ → ℕ → ℕ → List ℕ
 head_of front at cut =
     take 4 front ++ (little_bytes 4 (u32_at 4 front - cut)
-        ++ (slice_range front 8 (at + 4) ++ little_bytes 4 (u32_at (at + 4) front - cut)))
+    ++ (slice_range front 8 (at + 4) ++ little_bytes 4 (u32_at (at + 4) front - cut)))

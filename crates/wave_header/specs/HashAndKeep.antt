@@ -10,11 +10,11 @@ module _ {A : Type 0} where
   -- These bytes were read: those after the skipped ones are kept, and all are hashed; if the file
   -- ends with them, `digest` is that of the whole message.
   pub record Passed (old new : HashAndKeep A) (digest : Option (List ℕ)) (bytes : List ℕ) : Type 0
-      where
-    pub kept : new.kept.items ≡ old.kept.items ++ drop old.skip bytes
-    pub skip : new.skip ≡ old.skip - length bytes
-    pub hashed : (m : List ℕ) → Holds old.sha256_stream m
-        → MatchOption digest (Holds new.sha256_stream (m ++ bytes)) (λ d. d ≡ sha256 (m ++ bytes))
+    where
+      pub kept : new.kept.items ≡ old.kept.items ++ drop old.skip bytes
+      pub skip : new.skip ≡ old.skip - length bytes
+      pub hashed : (m : List ℕ) → Holds old.sha256_stream m
+          → MatchOption digest (Holds new.sha256_stream (m ++ bytes)) (λ d. d ≡ sha256 (m ++ bytes))
 
   -- some bytes of a reader were read in this way
   pub record Passes (before after : Option (List ℕ)) (old new : HashAndKeep A)

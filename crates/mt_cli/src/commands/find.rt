@@ -90,8 +90,7 @@ fn find<F: Files + AllocGlobal, W: Write>(
 
 // The message if a file is named but no clips are searched for, in the form of the parser's errors.
 fn no_clips(alloc: Global) -> Exit {
-    let text =
-        "error: the argument '--wave' can only be used with KIND 'clip'\n\
+    let text = "error: the argument '--wave' can only be used with KIND 'clip'\n\
             \n\
             Usage: radio find [OPTIONS] <LOG> <KIND> <WHAT>\n\
             \n\
