@@ -18,10 +18,8 @@ REMARK = {
     ".rt": re.compile("(%s|%s)|//[^\n]*" % (STRING, LETTER)),
     ".antt": re.compile(r"(%s)|(?<!\S)--[^\n]*" % STRING),
 }
-# the comma that `rt fmt` puts after the last part of a list on several lines, and the semicolon
-# after the last field of a record of contracts
+# the comma that `rt fmt` puts after the last part of a list on several lines
 LAST_COMMA = re.compile(r",(?=[ \t]*\n\s*[)\]}>])")
-LAST_SEMICOLON = {".rt": re.compile("(?!)"), ".antt": re.compile(r";(?=\s*\})")}
 # lines that may be in another order: imports, and lists of modules
 SORTED = {
     ".rt": r"^[ \t]*(?:pub(?:\(\w+\))? |ghost )?(?:use\s[^;]*|mod \w+);[ \t]*\n",
@@ -123,13 +121,26 @@ def imports_of(tokens):
     return [import_of(one) for one in alone]
 
 
+def without_last_semicolons(tokens):
+    """The tokens without the semicolons that `rt fmt` puts after the last fields of records of
+    contracts on several lines."""
+    made, braces = [], []
+    for token, before in zip(tokens, [""] + tokens):
+        if token == "{":
+            braces.append(before == "record")
+        elif token == "}" and braces and braces.pop() and made[-1] == ";":
+            made.pop()
+        made.append(token)
+    return made
+
+
 def tokens_of(path, text, names):
     """The tokens of a text, with old names in place of new ones, and consecutive imports sorted."""
     kind, scope = kind_of(path), names.old(names.old_crate(path))
     if kind == ".edit":
         return renamed(kind, plain_tokens(kind, text), scope)
     text = REMARK[kind].sub(lambda found: found.group(1) or "", text)
-    text = LAST_SEMICOLON[kind].sub("", LAST_COMMA.sub("", text)) + "\n"
+    text = LAST_COMMA.sub("", text) + "\n"
     made, block, at = [], [], 0
     for found in re.finditer(SORTED[kind], text, re.M):
         between = renamed(kind, plain_tokens(kind, text[at : found.start()]), scope)
@@ -139,7 +150,7 @@ def tokens_of(path, text, names):
         block += imports_of(renamed_import(kind, plain_tokens(kind, found.group()), scope))
         at = found.end()
     rest = renamed(kind, plain_tokens(kind, text[at:]), scope)
-    return made + sorted(block, key=repr) + rest
+    return without_last_semicolons(made + sorted(block, key=repr) + rest)
 
 
 def names_by_place(path, text):
