@@ -42,7 +42,7 @@ BUDGETS = {
     "docs/build/model.md": 1300,
     "docs/build/proved.md": 1500,
     "docs/build/decisions.md": 1300,
-    "docs/build/testing.md": 900,
+    "docs/build/testing.md": 950,
     "docs/build/performance.md": 600,
     "docs/build/adding-a-command.md": 600,
     "docs/build/adding-an-operation.md": 600,
