@@ -124,10 +124,12 @@ def imports_of(tokens):
 def without_last_semicolons(tokens):
     """The tokens without the semicolons that `rt fmt` puts after the last fields of records of
     contracts on several lines."""
-    made, braces = [], []
-    for token, before in zip(tokens, [""] + tokens):
+    made, braces, begins = [], [], False
+    for token in tokens:
+        begins = begins or token == "record"
         if token == "{":
-            braces.append(before == "record")
+            braces.append(begins)
+            begins = False
         elif token == "}" and braces and braces.pop() and made[-1] == ";":
             made.pop()
         made.append(token)
