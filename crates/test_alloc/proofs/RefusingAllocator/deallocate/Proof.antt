@@ -35,10 +35,10 @@ use denote.Builtin.{usize, RawPtr, RefOf}
 use denote.Triple.Call.{calls_at}
 use Rattle.std.proofs.alloc.Calls.{Al, α, seen, token, gives_key, Gives, at_gives, Gives-goes, Gives-Gives}
 use Rattle.test_alloc.specs.contracts.Refusing as refusing
-use Rattle.test_alloc.specs.contracts.FailingAllocator.deallocate as F
-use Rattle.test_alloc.specs.contracts.FailingAllocator.deallocate.Key as key
-use Rattle.test_alloc.proofs.FailingAllocator.deallocate.Statement as stated
-use Rattle.test_alloc.proofs.FailingAllocator.deallocate.Code as code
+use Rattle.test_alloc.specs.contracts.RefusingAllocator.deallocate as F
+use Rattle.test_alloc.specs.contracts.RefusingAllocator.deallocate.Key as key
+use Rattle.test_alloc.proofs.RefusingAllocator.deallocate.Statement as stated
+use Rattle.test_alloc.proofs.RefusingAllocator.deallocate.Code as code
 
 module _ (Z : Al) where
   abbrev args : Args

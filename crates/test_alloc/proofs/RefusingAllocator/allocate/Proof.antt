@@ -40,10 +40,10 @@ use Rattle.test_alloc.proofs.Counting.{Counts, at_count, Counts-goes, Counts-giv
 use Rattle.test_alloc.proofs.tally.Tally.refuses_next.Symbol as next_sym
 use Rattle.test_alloc.proofs.tally.Tally.refuses_next.Met as next_met
 use Rattle.test_alloc.specs.contracts.Refusing as refusing
-use Rattle.test_alloc.specs.contracts.FailingAllocator.allocate as F
-use Rattle.test_alloc.specs.contracts.FailingAllocator.allocate.Key as key
-use Rattle.test_alloc.proofs.FailingAllocator.allocate.Statement as stated
-use Rattle.test_alloc.proofs.FailingAllocator.allocate.Code as code
+use Rattle.test_alloc.specs.contracts.RefusingAllocator.allocate as F
+use Rattle.test_alloc.specs.contracts.RefusingAllocator.allocate.Key as key
+use Rattle.test_alloc.proofs.RefusingAllocator.allocate.Statement as stated
+use Rattle.test_alloc.proofs.RefusingAllocator.allocate.Code as code
 
 module _ (Z : Al) where
   abbrev args : Args
