@@ -25,6 +25,8 @@ sys.dont_write_bytecode = True
 from pages import commands, crates, results
 from pages.text import TOP, files_of, text_of
 
+# how the name of a crate begins
+GROUP = "(?:mt|base|session|sync|wave|text|cli)"
 PART = re.compile(r"<!-- generated: ([^>]*?) -->(.*?)<!-- end -->", re.S)
 # laws that pages name before the code has them
 COMING = set()
@@ -112,14 +114,14 @@ def name_faults(texts):
         code = " ".join(
             re.findall(r"`([^`]*)`", re.sub(r"^```.*?^```$", "", text, flags=re.M | re.S))
         )
-        names = set(re.findall(r"(?:mt|text)_\w+::laws::\w+", text)) - laws_there
+        names = set(re.findall(r"\b%s_\w+::laws::\w+" % GROUP, text)) - laws_there
         names |= set(re.findall(r"\b\w+\.(?:rt|antt|py)\b", code)) - files
         names |= {
             "%s::%s" % pair
             for pair in re.findall(r"\b([A-Z]\w+)::([a-z]\w+)", code)
             if pair[1] not in functions
         }
-        for crate, listed in re.findall(r"((?:mt|text)_\w+)((?:,?\s+`\w+\.antt`)+)", text):
+        for crate, listed in re.findall(r"\b(%s_\w+)((?:,?\s+`\w+\.antt`)+)" % GROUP, text):
             names |= {
                 "%s of %s" % (name, crate)
                 for name in set(re.findall(r"\w+\.antt", listed)) - definitions(crate)

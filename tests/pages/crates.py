@@ -10,7 +10,7 @@ from pages.text import files_of, fill, table, text_of
 ROOMS = {
     "base": {
         "base_sha256": "SHA-256: of one message, of a stream, of eight messages at a time",
-        "base_text": "where texts are cut, and words and numbers behind them",
+        "base_text": "cuts texts into lines and words, and appends words and numbers",
         "base_times": "times and decibels as people write them",
         "mt_stamp": "replicas, dots, stamps, and the order of places in a tree",
         "base_io": "readers and writers that stay failed, and a buffer in front of a writer",
@@ -33,13 +33,13 @@ ROOMS = {
         "sync_framing": "frames in a stream of bytes",
         "sync_messages": "summaries of logs, missing operations, messages",
         "sync_world": "editors that work, save, send and crash: the laws of every history",
-        "mt_sync": "conversations between two holders of operations",
+        "mt_sync": "conversations between two peers",
     },
     "sound": {
         "mt_overlap": "overlapping spans, and the segments in which one is on top",
         "mt_bwfread": "Broadcast Wave files in memory",
         "wave_header": "a wave file read as a stream, without its samples",
-        "mt_render": "the recordings at hand, and the mix of a session",
+        "mt_render": "the available recordings, and the mix of a session",
         "mt_cuewrite": "the rendered file with its markers as cue points",
     },
     "text": {
@@ -53,7 +53,7 @@ ROOMS = {
         "text_cues": "cue points as lines of a script",
         "text_labels": "markers as a label track, and back as lines of a script",
         "text_csv": "a session as one table",
-        "text_edl": "what is heard of a track as an edit decision list",
+        "text_edl": "what is audible on a track as an edit decision list",
         "text_json": "lines as JSON, with times, and back from times",
     },
     "program": {
