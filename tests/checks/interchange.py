@@ -11,6 +11,7 @@ table the fields that `view --json` has. LibreOffice reads a table, if it is ins
 import argparse
 import csv
 import hashlib
+import io
 import json
 import os
 import random
@@ -29,7 +30,9 @@ from formats.sessions import session_of
 from formats.waves import data, fmt, riff
 
 EDITOR = "00000000-0000-0000-0000-00000000000b"
-TITLES = ["", "News at 9", " two  spaces ", "Köln", "新闻", "back\\slash", "\\x41", '"', "a,b", "t" * 255]
+TITLES = [
+    "", "News at 9", " two  spaces ", "Köln", "新闻", "back\\slash", "\\x41", '"', "a,b", "t" * 255,
+]
 RATES = [1, 8000, 44100, 48000, 96000, 384000]
 
 
@@ -121,7 +124,7 @@ def tables_agree(desk, draw):
     table = desk.run("csv", "set.log")
     assert table.decode() == csv_text(own), "csv"
     lines = [json.loads(line) for line in desk.run("view", "--json", "set.log").splitlines()]
-    read = list(csv.DictReader(table.decode().splitlines(keepends=True), strict=True))
+    read = list(csv.DictReader(io.StringIO(table.decode(), newline=""), strict=True))
     assert read == list(rows_of(lines)), ("csv", read, list(rows_of(lines)))
     timed = desk.run("csv", "--rate", str(rate), "set.log").decode()
     assert timed == csv_text(own, rate), "csv --rate"

@@ -34,7 +34,7 @@ BUDGETS = {
     "docs/use/output.md": 1500,
     "docs/use/exchange.md": 500,
     "docs/use/git.md": 200,
-    "docs/use/interchange.md": 800,
+    "docs/use/interchange.md": 870,
     "docs/use/errors.md": 900,
     "docs/formats/log.md": 1100,
     "docs/formats/wave.md": 900,

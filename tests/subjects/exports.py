@@ -127,7 +127,12 @@ for name, text in (
 no_script("no_utf_8", 41, b"1\t1\t\xff\n")
 no_script("a_bad_line_after_others", 41, b"1\t1\tA\n\n2\t1\tB\n")
 no_script("a_line_too_many", 35, b"1\t2\tA\n2\t2\tB\n", ["--line", "4294967295"])
+script("a_range_in_the_last_line", "0\t1\tA\n", "add-marker 0 A\nmarker-length $4294967295 48000\n",
+       ["--line", "4294967295"])
 fault("labels_read_no_file", 45, ["labels", "--read", "t"])
+fault("labels_read_output_full", 37, ["labels", "--read", "t"], files={"t": b"0\t1\tA\n"},
+      output="full")
+fault("labels_read_a_folder", 45, ["labels", "--read", "folder"], setup="mkdir folder")
 
 
 def caused(name, number, words, files, cause):
@@ -184,19 +189,26 @@ listed("one_that_was_moved",
        [VOICE, played(0, 0, 48000), move_clip(SECOND, CLIP, TRACK, 96000)], [WHOLE])
 listed("a_muted_clip", [VOICE, played(0, 0, 48000), set_mute(SECOND, CLIP, 1)], [])
 listed("a_muted_track", [VOICE, played(0, 0, 48000), set_mute(SECOND, TRACK, 1)], [])
-listed("at_24", [VOICE, played(1000, 0, 1000)],
-       [event(1, "00:00:00:00 00:00:01:00 00:00:01:00 00:00:02:00")],
-       ["--fps", "24", "--rate", "1000"])
+listed("at_24", [VOICE, played(2000, 0, 2000)],
+       [event(1, "00:00:00:00 00:00:00:01 00:00:00:01 00:00:00:02")], ["--fps", "24"])
 listed("at_30", [VOICE, played(1600, 0, 1600)],
        [event(1, "00:00:00:00 00:00:00:01 00:00:00:01 00:00:00:02")], ["--fps", "30"])
 # one minute has 1,798 frames and the tenth 1,800
-listed("drop_frame", [VOICE, played(60060000, 0, 60060000)],
+listed("drop_frame", [VOICE, played(2882880, 0, 2882880)],
        [event(1, "00:00:00;00 00:01:00;02 00:01:00;02 00:02:00;04")],
-       ["--fps", "29.97", "--rate", "1000000"], mode="DROP FRAME")
+       ["--fps", "29.97"], mode="DROP FRAME")
 listed("rounded", [VOICE, played(960, 959, 2881)],
        [event(1, "00:00:00:00 00:00:00:01 00:00:00:01 00:00:00:02",
               "ROUNDED: SOURCE 959 TO 3840, RECORD 960 TO 3841, FRAMES AT 48000")])
 listed("a_title", [VOICE], [], ["--title", "The News"], title="The News")
+listed("an_empty_title", [VOICE], [], ["--title", ""])
+listed("a_muted_clip_over_another",
+       [VOICE, played(96000, 0, 48000), played(96000, 0, 480, SECOND),
+        set_mute((5, A, 5), SECOND, 1)], [WHOLE])
+# a span without a video frame
+listed("under_half_a_frame", [VOICE, played(0, 0, 959)],
+       [event(1, "00:00:00:00 00:00:00:00 00:00:00:00 00:00:00:00",
+              "ROUNDED: SOURCE 0 TO 959, RECORD 0 TO 959, FRAMES AT 48000")])
 listed("the_second_track",
        [add_track(SECOND, TRACK, "Music"), VOICE, played(96000, 0, 48000)], [],
        ["--track", "2"])
@@ -206,6 +218,7 @@ for name, words in (("no_track", []), ("track_0", ["--track", "0"]), ("track_2",
     ops = [] if name == "no_track" else [VOICE]
     fault("edl_" + name, 21, ["edl", *words, "log"], files={"log": log(ops)})
 fault("edl_other_frames", 47, ["edl", "--fps", "23.976", "missing"])
+fault("edl_output_full", 37, ["edl", "log"], files={"log": log([VOICE])}, output="full")
 fault("edl_no_file", 45, ["edl", "log"])
 fault("edl_a_cut_log", 13, ["edl", "log"], files={"log": CUT})
 # 500 clips within a longer one, which is heard before, between and after them
@@ -254,6 +267,11 @@ pointed("a_tab_in_a_label", [labelled(b"A\tB")], "add-marker 1 A\\x09B\n")
 pointed("a_backslash", [labelled(b"A\\B")], "add-marker 1 A\\B\n")
 pointed("no_utf_8", [labelled(b"caf\xe9 \xc3\xa9\x7f")], "add-marker 1 caf\\xe9 é\\x7f\n")
 pointed("a_label_of_300_bytes", [labelled(b"x" * 300)], "add-marker 1 %s\n" % ("x" * 255))
+pointed("cut_within_an_escape", [labelled(b"x" * 253 + b"\t")],
+        "add-marker 1 %s\\x\n" % ("x" * 253))
+pointed("two_labels_of_one_name",
+        [riff(fmt(), data(bytes(9)), cue(point(1, 1)), adtl(labl(1, b"A\0"), labl(1, b"B\0")))],
+        "add-marker 1 A\n")
 pointed("cut_within_a_letter", [labelled(b"x" * 254 + "é".encode())],
         "add-marker 1 %s\n" % ("x" * 254))
 pointed("at_the_last_frame", [labelled(b"A")], "add-marker 4294967295 A\n",
@@ -269,7 +287,8 @@ fault("cues_a_folder", 45, ["cues", "folder"], setup="mkdir folder")
 fault("cues_output_full", 37, ["cues", "r"], files={"r": BELL}, output="full")
 caused("cues_another_rate_why", 34, ["cues", "r1", "r2"], {"r1": BELL, "r2": AT_44},
        "source %s rate 44100 file r2" % named(AT_44).hex())
-caused("cues_too_late_why", 35, ["cues", "--at", "4294967291", "r1"], {"r1": BELL},
-       "recording r1 cue 0")
+caused("cues_too_late_why", 35, ["cues", "--at", "4294967291", "r1", "r2"],
+       {"r1": PLAIN, "r2": riff(fmt(), data(bytes(30)), cue(point(1, 1), point(2, 9)))},
+       "recording r2 cue 1")
 caused("cues_no_wave_why", 26, ["cues", "r1", "r2"], {"r1": BELL, "r2": b"no"}, "recording r2")
 caused("cues_no_file_why", 45, ["cues", "r1", "r2"], {"r1": BELL}, "input r2")

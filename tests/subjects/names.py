@@ -67,6 +67,8 @@ fault("new_where_there_is_a_part", 37, ["new", "log"], files={"log.part": ONE})
 fault("new_in_a_missing_folder", 37, ["new", "folder/log"])
 case("new_where_there_is_one_why", ["new", "--why", "log"], files={"log": ONE}, status=1,
      stderr="radio: fault 37\nradio: why: output log is there\n")
+case("new_where_there_is_a_part_why", ["new", "--why", "log"], files={"log.part": ONE}, status=1,
+     stderr="radio: fault 37\nradio: why: output log cannot be made: its part is there\n")
 case("new_of_two", ["new", "log", "other"], status=2,
      stderr="error: unexpected argument 'other' found\n\nUsage: radio new [OPTIONS] <LOG>\n\n"
      "For more information, try '--help'.\n")

@@ -13,3 +13,4 @@ mod SourcesListing
 mod Finding
 mod Checking
 mod Promises
+pub mod Cues

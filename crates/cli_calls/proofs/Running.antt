@@ -1,11 +1,12 @@
 -- Commands that have run.
-use Rattle.std.proofs.Common.{◌≡◌, ℕ, List, Option, Result, Ok, Err, inl, inr}
+use Rattle.std.proofs.Common.{◌≡◌, ℕ, List, Option, Result, Ok, Err, inl, inr, subst, sym}
 use Rattle.std.specs.Prelude.{OnOk, IfErr}
 use Rattle.base_io.specs.Latch.{Latch}
 use Rattle.cli_calls.specs.declared.fault.CliFault.{CliFault}
 use Rattle.cli_calls.specs.declared.fault.CliFault.TheVariants as cli
-use Rattle.cli_calls.specs.Running.{Lent, Done, NotDone, RanOn}
-use Rattle.cli_calls.specs.Writing.{MadeWritten, MadeFails, Wrote}
+use Rattle.cli_calls.specs.Reading.{AreRead}
+use Rattle.cli_calls.specs.Running.{Lent, Done, NotDone, RanOn, RanAndPrinted}
+use Rattle.cli_calls.specs.Writing.{MadeWritten, MadeFails, Wrote, Outputs, BothWritten, BothFail, WroteBoth}
 
 module _ {I W X : Type 0} (Given : I → X → Type 0) (Cause : I → I → CliFault → Type 0) (AtEnd : I → Type 0) (Makes : X → Result (List ℕ) CliFault → Type 0) (contents : W → Option (List ℕ)) (before after : Lent I (Latch W)) where
   -- the inputs gave a value, and what is made of it was written, or was not
@@ -74,4 +75,35 @@ module _ {I W X Y : Type 0} (Given : I → X → Type 0) (Other : I → Y → Ty
     read = ran.read;
     refused = not_done_as result ran.refused;
     stays = ran.stays;
+  }
+
+-- the inputs gave a value, and what is made of it was written and printed, or was not
+module _ {R W T X : Type 0} (remaining : R → Option (List ℕ)) (Given : List (Latch R) → X → Type 0) (Cause : List (Latch R) → List (Latch R) → CliFault → Type 0)
+    (Makes : X → Result (List ℕ × List ℕ) CliFault → Type 0) (contents : W → Option (List ℕ)) (prints : T → Option (List ℕ)) (before after : Lent (List (Latch R)) (Outputs W T))
+    (x : X) (given : Given before.inputs x) (read : AreRead remaining after.inputs) (made : List ℕ × List ℕ) (makes : Makes x (Ok made)) where
+  both_done : (result : Result (Unit {0}) CliFault) → OnOk result (BothWritten contents prints (λ m. m ≡ Ok made) before.output after.output) → OnOk result (Done Given (λ y. BothWritten contents prints (Makes y)) before after)
+  both_done (Ok unit) (bytes, (text, (is, put))) = (x, (given, (bytes, (text, (subst (Makes x) (sym is) makes, put)))))
+  both_done (Err fault) put = put
+
+  both_fail : (fault : CliFault) → BothFail contents prints (λ m. m ≡ Ok made) before.output after.output fault → BothFail contents prints (Makes x) before.output after.output fault
+  both_fail cli.Memory fails = fails
+  both_fail cli.Write (bytes, (text, (is, failed))) = (bytes, (text, (subst (Makes x) (sym is) makes, failed)))
+  both_fail cli.Print (bytes, (text, (is, failed))) = (bytes, (text, (subst (Makes x) (sym is) makes, failed)))
+  both_fail _ fails = cc fails.0
+
+  both_not_done : (result : Result (Unit {0}) CliFault) → IfErr result (BothFail contents prints (λ m. m ≡ Ok made) before.output after.output) → IfErr result (NotDone Given Cause (AreRead remaining) (λ y. BothFail contents prints (Makes y)) before after)
+  both_not_done (Ok unit) fails = fails
+  both_not_done (Err fault) fails = inr (x, (given, (read, both_fail fault fails)))
+
+  both_read : (result : Result (Unit {0}) CliFault) → OnOk result (AreRead remaining after.inputs)
+  both_read (Ok unit) = read
+  both_read (Err fault) = tt
+
+  pub printed_on : (result : Result (Unit {0}) CliFault) → WroteBoth contents prints (λ m. m ≡ Ok made) before.output after.output result → RanAndPrinted remaining Given Cause Makes contents prints before after result
+  printed_on result wrote = record {
+    written = both_done result wrote.written;
+    read = both_read result;
+    refused = both_not_done result wrote.refused;
+    output_stays = wrote.output_stays;
+    printed_stays = wrote.printed_stays;
   }

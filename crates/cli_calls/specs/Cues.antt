@@ -92,5 +92,5 @@ module _ {R : Type 0} (remaining : R → Option (List ℕ)) where
 
   -- why the first reader without a wave file gave none
   abbrev pub HasHeaderCause : {A : Type 0} → List (Latch R) → List (Latch R) → CliFault → Type 0
-  HasHeaderCause {A} = FirstCause (IsRead remaining) (GaveHeader {A})
+  HasHeaderCause {A} = FirstCause (IsRead remaining) (GaveHeader {A = A})
       (IsSourceCause remaining 0) 0

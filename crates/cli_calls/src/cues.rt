@@ -68,7 +68,7 @@ impl<A: Allocator + Clone> Input<A> for Headers {
 
     ghost given = { λ s R remaining. GaveHeaders remaining };
 
-    ghost cause = { λ s R remaining. HasHeaderCause remaining {A} };
+    ghost cause = { λ s R remaining. HasHeaderCause remaining {A = A} };
 
     fn read_from<R: Read>(
         &self,
@@ -165,8 +165,8 @@ pub fn cue_files<A: Allocator + Clone, R: Read, W: Write>(
     inputs: &mut [Latch<R>],
     output: &mut Latch<W>,
 ) -> Result<(), CliFault>
-    ensures { Ran R.remaining (GaveHeaders R.remaining {A} {A}) (HasHeaderCause R.remaining {A})
-        (CuesMake options.now) W.contents
+    ensures { Ran R.remaining (GaveHeaders R.remaining {A = A} {Z = A})
+        (HasHeaderCause R.remaining {A = A}) (CuesMake options.now) W.contents
         (lent inputs.old output.old) (lent inputs.new output.new) result }
 {
     run(&Headers, &Cues { options }, alloc, inputs, output)

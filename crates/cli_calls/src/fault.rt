@@ -126,13 +126,14 @@ pub enum CliFault {
     /// A word that must name a recording is not a digest.
     #[error("the recording's name: {0}")]
     Digest(OpFault),
-    /// This many items match a query that must match exactly one.
+    /// This many items match a query that must match exactly one; or a log's session has this many
+    /// tracks, and none of the requested number.
     #[error("{0} items have what is looked for")]
     NoSuchItem(usize),
     /// A text for the head of a wave file is not accepted.
     #[error("{0}")]
     Head(HeadFault),
-    /// The format is not one in which wave files are written.
+    /// The format is not one in which wave files, or edit decision lists, are written.
     #[error("{0}")]
     Format(FormatFault),
     /// The script is refused; the fault has the line.

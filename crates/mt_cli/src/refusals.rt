@@ -170,7 +170,7 @@ const OF_EDITS: [Refusal; 5] = [
         number: 21,
         name: "NoSuchItem",
         meaning: "there is no such item; or `find --one` found none or several; or `revert` names \
-            an operation that is not in the log",
+            an operation that is not in the log, or `edl` a track that is not there",
         advice: "Look up the stamp with `radio view`: it follows `track`, `clip` or `marker`. A \
             marker has no gain, and a clip no title. For `find --one`, `--why` prints how many \
             items there are. `radio log` prints the stamps of all operations.",
@@ -274,11 +274,13 @@ const OF_RENDERING: [Refusal; 4] = [
     Refusal {
         number: 35,
         name: "TooLong",
-        meaning: "the programme is too long for a wave file, or a clip would begin after frame \
-            4294967295",
+        meaning: "the programme is too long for a wave file; or a clip or marker would begin after \
+            frame 4294967295; or a track has over 999 events for `edl`; or a line of a script \
+            would have a number over 4294967295",
         advice: "Look for a clip that was placed far after the others by mistake, or render fewer \
-            channels or bits. For `radio lay`, `--why` names the recording that would begin too \
-            late: use fewer recordings, or a smaller --at or --gap.",
+            channels or bits. For `radio lay` and `cues`, `--why` names the recording: use fewer \
+            recordings, or a smaller --at, --gap or --line. For `radio edl`, move clips to another \
+            track.",
     },
     Refusal {
         number: 36,
@@ -297,8 +299,8 @@ const OF_FILES_AND_PARTS: [Refusal; 16] = [
         number: 37,
         name: "Write",
         meaning: "the output cannot be created, written or renamed; or OUT.part exists; or OUT \
-            exists and --new was given; or another program has replaced the log OUT since it was \
-            read",
+            exists, but must be new (`--new`, or `radio new`); or another program has replaced the \
+            log OUT since it was read",
         advice: "`--why` says which. Check free space and the permissions of the folder. If \
             another program was changing the same log, run the command again. Delete OUT.part if \
             no program is writing it. A broken conversation may also be 37: meet again.",
@@ -327,12 +329,13 @@ const OF_FILES_AND_PARTS: [Refusal; 16] = [
     Refusal {
         number: 41,
         name: "BadLine",
-        meaning: "a line of a script is not a change",
+        meaning: "a line of a script is not a change, or a line of a label track is not a label",
         advice: "`--why` prints the line number. Look for a misspelt word, a wrong digest, a gain \
             that is not NUM/DEN (-6 dB is 501/1000), a time where frames are expected (only \
             `--time` accepts 0:01:30.5, 1.5s and -6dB), a number with a leading zero, two spaces \
             or a tab, CR line ends, a byte order mark, a fade over 1,048,576 frames, or a `$k` \
-            of a line that adds nothing.",
+            of a line that adds nothing. A label is START, END and a title, with a tab between \
+            each two: seconds such as 1.5, without a sign, and END not before START.",
     },
     Refusal {
         number: 42,
@@ -371,8 +374,9 @@ const OF_FILES_AND_PARTS: [Refusal; 16] = [
     Refusal {
         number: 47,
         name: "BadFormat",
-        meaning: "a rate, sample size or number of channels is not supported",
-        advice: "Use a rate from 1 to 384000, 16 or 24 bits, and 1 or 2 channels.",
+        meaning: "a rate, sample size, number of channels or video frame rate is not supported",
+        advice: "Use a rate from 1 to 384000, 16 or 24 bits, and 1 or 2 channels; for `edl`, --fps \
+            24, 25, 29.97 or 30.",
     },
     Refusal {
         number: 48,
