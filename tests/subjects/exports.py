@@ -141,9 +141,9 @@ def caused(name, number, words, files, cause):
 
 
 caused("labels_read_a_bad_line_why", 41, ["labels", "--read", "t"], {"t": b"1\t1\tA\n\n2\t1\tB\n"},
-       "labels t line 3")
+       "script t line 3")
 caused("labels_read_a_line_too_many_why", 35, ["labels", "--read", "--line", "4294967295", "t"],
-       {"t": b"1\t2\tA\n2\t2\tB\n"}, "labels t")
+       {"t": b"1\t2\tA\n2\t2\tB\n"}, "script lines of t")
 
 
 # ---- edl
@@ -289,6 +289,6 @@ caused("cues_another_rate_why", 34, ["cues", "r1", "r2"], {"r1": BELL, "r2": AT_
        "source %s rate 44100 file r2" % named(AT_44).hex())
 caused("cues_too_late_why", 35, ["cues", "--at", "4294967291", "r1", "r2"],
        {"r1": PLAIN, "r2": riff(fmt(), data(bytes(30)), cue(point(1, 1), point(2, 9)))},
-       "recording r2 cue 1")
+       "recording r2")
 caused("cues_no_wave_why", 26, ["cues", "r1", "r2"], {"r1": BELL, "r2": b"no"}, "recording r2")
 caused("cues_no_file_why", 45, ["cues", "r1", "r2"], {"r1": BELL}, "input r2")

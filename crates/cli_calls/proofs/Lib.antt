@@ -13,4 +13,4 @@ mod SourcesListing
 mod Finding
 mod Checking
 mod Promises
-pub mod Cues
+pub mod CueLines

@@ -7,20 +7,30 @@ use Rattle.mt_bwfread.specs.declared.fault.WaveFault.{WaveFault}
 use Rattle.wave_header.specs.WaveHeader.{Gives, IsWaveHeader}
 use Rattle.wave_header.specs.declared.header.WaveHeader.{WaveHeader}
 use Rattle.text_cues.specs.CueLines.{LinesText, Made, cue_lines}
+use Rattle.text_cues.specs.declared.fault.CuesFault.{CuesFault}
+use Rattle.text_cues.specs.declared.fault.CuesFault.TheVariants as cues
 use Rattle.cli_calls.specs.declared.cues.CueOptions.{CueOptions}
 use Rattle.cli_calls.specs.declared.fault.CliFault.{CliFault}
-use Rattle.cli_calls.specs.declared.fault.CliFault.TheVariants.{Memory, Source, Cues}
+use Rattle.cli_calls.specs.declared.fault.CliFault.TheVariants.{Memory, Source, Lay}
+use Rattle.cli_calls.specs.declared.fault.LayFault.TheVariants as lay
 use Rattle.cli_calls.specs.Laying.{behind}
 use Rattle.cli_calls.specs.Reading.{GaveEach, FirstCause, IsRead}
 use Rattle.cli_calls.specs.Sources.{IsSourceCause}
 
 -- ---- the lines of one file
 
+-- the command's fault for that of the cue points of the file at an index
+abbrev pub cues_fault : ℕ → CuesFault → CliFault
+cues_fault index cues.Memory = Memory
+cues_fault index cues.RateDiffers = Lay index lay.RateDiffers
+cues_fault index (cues.TooLong cue) = Lay index lay.TooLong
+cues_fault index cues.TooManyLines = Lay index lay.TooManyLines
+
 -- the lines of the file at this index, if it is a wave file that has lines
 abbrev pub or_fault : ℕ → Option WaveFault → Made → Result LinesText CliFault
 or_fault index (Some fault) made = Err (Source index fault)
 or_fault index None (Ok lines) = Ok lines
-or_fault index None (Err fault) = Err (Cues index fault)
+or_fault index None (Err fault) = Err (cues_fault index fault)
 
 -- the result for the file at this index, with the number of its first line in the script
 abbrev pub file_lines : CueOptions → ℕ → ℕ → List ℕ → Result LinesText CliFault
@@ -76,7 +86,7 @@ CuesMake o headers made = (files : List (List ℕ)) → HaveHeaders files header
 abbrev pub IsCuesCause : {X : Type 0} → Result X CliFault → CliFault → Type 0
 IsCuesCause made Memory = Unit {0}
 IsCuesCause made (Source index fault) = made ≡ Err (Source index fault)
-IsCuesCause made (Cues index fault) = made ≡ Err (Cues index fault)
+IsCuesCause made (Lay index fault) = made ≡ Err (Lay index fault)
 IsCuesCause made _ = ⊥
 
 -- ---- the readers of files
@@ -91,6 +101,6 @@ module _ {R : Type 0} (remaining : R → Option (List ℕ)) where
   GaveHeaders latches headers = GaveEach GaveHeader latches headers.items
 
   -- why the first reader without a wave file gave none
-  abbrev pub HasHeaderCause : {A : Type 0} → List (Latch R) → List (Latch R) → CliFault → Type 0
-  HasHeaderCause {A} = FirstCause (IsRead remaining) (GaveHeader {A = A})
+  abbrev pub HasHeaderCause : (A : Type 0) → List (Latch R) → List (Latch R) → CliFault → Type 0
+  HasHeaderCause A = FirstCause (IsRead remaining) (GaveHeader {A = A})
       (IsSourceCause remaining 0) 0

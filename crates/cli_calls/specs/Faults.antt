@@ -18,9 +18,6 @@ use Rattle.mt_sync.specs.Faults.{number_of as sync_number}
 use Rattle.mt_sync.specs.declared.fault.TalkFault.TheVariants as talk
 use Rattle.mt_sync.specs.declared.fault.SyncFault.{SyncFault}
 use Rattle.mt_sync.specs.declared.fault.SyncFault.TheVariants as sync
-use Rattle.text_cues.specs.Faults.{number_of as cues_number}
-use Rattle.text_edl.specs.Faults.{number_of as edl_number}
-use Rattle.text_labels.specs.Faults.{number_of as labels_number}
 use Rattle.cli_calls.specs.declared.fault.LayFault.{LayFault}
 use Rattle.cli_calls.specs.declared.fault.LayFault.TheVariants as lay
 use Rattle.cli_calls.specs.declared.fault.CliFault.{CliFault}
@@ -29,7 +26,6 @@ use Rattle.cli_calls.specs.declared.fault.CliFault.TheVariants.{Mix, Lay, Write,
 use Rattle.cli_calls.specs.declared.fault.CliFault.TheVariants.{Digest, NoSuchItem, Head}
 use Rattle.cli_calls.specs.declared.fault.CliFault.TheVariants.{Format as FormatFault}
 use Rattle.cli_calls.specs.declared.fault.CliFault.TheVariants.{Script, Message, Sync, Net}
-use Rattle.cli_calls.specs.declared.fault.CliFault.TheVariants.{Cues, Labels, EditList}
 
 -- The number for a recording that is not laid: that of a clip without a frame, of a recording of
 -- another rate, or of a programme that is too long.
@@ -37,6 +33,7 @@ abbrev pub lay_number : LayFault → ℕ
 lay_number lay.ZeroLength = 6
 lay_number lay.RateDiffers = 34
 lay_number lay.TooLong = 35
+lay_number lay.TooManyLines = 35
 
 -- the number of a fault; for a fault that contains another, the number of the inner one
 abbrev pub number_of : CliFault → ℕ
@@ -47,9 +44,6 @@ number_of (Merge dot) = 17
 number_of (Source index fault) = wave_fault_number fault
 number_of (Mix fault) = mix_number fault
 number_of (Lay index fault) = lay_number fault
-number_of (Cues index fault) = cues_number fault
-number_of (Labels fault) = labels_number fault
-number_of (EditList fault) = edl_number fault
 number_of Write = 37
 number_of (Part fault) = 37
 number_of Print = 37

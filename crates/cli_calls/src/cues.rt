@@ -6,7 +6,7 @@ ghost use Rattle.cli_calls.specs.Cues.{GaveHeaders, HasHeaderCause};
 ghost use Rattle.cli_calls.specs.Running.{lent, Ran};
 
 use crate::command::{Command, Input, run};
-use crate::fault::CliFault;
+use crate::fault::{CliFault, LayFault};
 use crate::put::put_bytes;
 use crate::read::{OneInput, read_each, read_header};
 use base_io::Latch;
@@ -68,7 +68,7 @@ impl<A: Allocator + Clone> Input<A> for Headers {
 
     ghost given = { λ s R remaining. GaveHeaders remaining };
 
-    ghost cause = { λ s R remaining. HasHeaderCause remaining {A = A} };
+    ghost cause = { λ s R remaining. HasHeaderCause remaining A };
 
     fn read_from<R: Read>(
         &self,
@@ -99,7 +99,9 @@ fn file_lines<A: Allocator + Clone>(
     match cue_lines(alloc, options.rate, line, options.at, &wave) {
         Ok(lines) => Ok(lines),
         Err(CuesFault::Memory) => Err(CliFault::Memory),
-        Err(fault) => Err(CliFault::Cues(index, fault)),
+        Err(CuesFault::RateDiffers) => Err(CliFault::Lay(index, LayFault::RateDiffers)),
+        Err(CuesFault::TooLong(_)) => Err(CliFault::Lay(index, LayFault::TooLong)),
+        Err(CuesFault::TooManyLines) => Err(CliFault::Lay(index, LayFault::TooManyLines)),
     }
 }
 
@@ -154,7 +156,7 @@ impl<A: Allocator + Clone> Command<A, Vec<WaveHeader<A>, A>> for Cues<'_> {
 /// the same position. The memory is that of the outlines and of the lines.
 ///
 /// Errors, in this order: `Read` (45) with the index of an input whose latch has failed, or
-/// `Source` (26 to 32) with the index of one that is not a wave file, from left to right; `Cues`
+/// `Source` (26 to 32) with the index of one that is not a wave file, from left to right; `Lay`
 /// with the index of the first recording that has another rate (34), or of which a marker would be
 /// after frame 4,294,967,295 or a line would have a number over that (35); `Write` (37) if the
 /// output's latch has failed (the output then holds a prefix of the text); `Memory` (0) if an
@@ -166,7 +168,7 @@ pub fn cue_files<A: Allocator + Clone, R: Read, W: Write>(
     output: &mut Latch<W>,
 ) -> Result<(), CliFault>
     ensures { Ran R.remaining (GaveHeaders R.remaining {A = A} {Z = A})
-        (HasHeaderCause R.remaining {A = A}) (CuesMake options.now) W.contents
+        (HasHeaderCause R.remaining A) (CuesMake options.now) W.contents
         (lent inputs.old output.old) (lent inputs.new output.new) result }
 {
     run(&Headers, &Cues { options }, alloc, inputs, output)

@@ -14,6 +14,7 @@ use crate::put::put_bytes;
 use crate::union::OneLog;
 use base_io::Latch;
 use mt_opcodec::Log;
+use mt_render::MixFault;
 use mt_sessionview::{TrackView, of_log};
 use std::alloc::Allocator;
 use std::io::{Read, Write};
@@ -56,7 +57,7 @@ fn put_list<A: Allocator + Clone, B: Allocator, W: Write>(
     match edit_list(alloc, options.title, rate, options.frame_rate, track, &[]) {
         Ok(text) => put_bytes(&text, output),
         Err(EdlFault::Memory) => Err(CliFault::Memory),
-        Err(fault) => Err(CliFault::EditList(fault)),
+        Err(EdlFault::TooManyEvents) => Err(CliFault::Mix(MixFault::TooLong)),
     }
 }
 
@@ -91,7 +92,7 @@ impl<A: Allocator + Clone> Command<A, Log<A>> for Edl<'_, '_> {
 ///
 /// Errors, in this order: `Read` (45) if the input's latch has failed, or `Log` (11 to 16, 52) if
 /// its bytes are not a log, each with index 0; `NoSuchItem` (21) with the number of tracks, if
-/// there is none of the requested number; `EditList` (35) if the list would have over 999 events;
+/// there is none of the requested number; `Mix` (35) if the list would have over 999 events;
 /// `Write` (37) if the output's latch has failed (the output then holds a prefix of the text);
 /// `Memory` (0) if an allocation failed.
 pub fn edl_log<A: Allocator + Clone, R: Read, W: Write>(

@@ -13,9 +13,6 @@ use mt_script::ScriptFault;
 use mt_stamp::{Dot, StampFault};
 use mt_sync::{MessageFault, SyncFault};
 use std::alloc::{AllocError, AllocFailed};
-use text_cues::CuesFault;
-use text_edl::EdlFault;
-use text_labels::LabelsFault;
 use thiserror::Error;
 
 /// Why OUT is not made, or does not get its name. OUT itself is unchanged.
@@ -50,7 +47,7 @@ impl PartFault {
     }
 }
 
-/// Why a recording cannot be laid on a track.
+/// Why no script lines can be made of an input: of a recording, its cue points, or labels.
 #[derive(Clone, Copy, Debug, PartialEq, Eq, Error)]
 pub enum LayFault {
     /// The recording has no frames; a clip has at least one.
@@ -59,9 +56,12 @@ pub enum LayFault {
     /// The recording has another rate.
     #[error("it is of another rate")]
     RateDiffers,
-    /// The clip would begin after the last position, frame 4,294,967,295.
-    #[error("it would begin behind frame 4294967295")]
+    /// The clip or marker would begin after the last position, frame 4,294,967,295.
+    #[error("it would begin after frame 4294967295")]
     TooLong,
+    /// A line would have a number over 4,294,967,295.
+    #[error("a line would have a number over 4294967295")]
+    TooManyLines,
 }
 
 impl LayFault {
@@ -74,6 +74,7 @@ impl LayFault {
             LayFault::ZeroLength => 6,
             LayFault::RateDiffers => 34,
             LayFault::TooLong => 35,
+            LayFault::TooManyLines => 35,
         }
     }
 }
@@ -96,21 +97,12 @@ pub enum CliFault {
     /// The bytes of the recording at this index are not a wave file.
     #[error("recording {0} is no wave file: {1}")]
     Source(usize, WaveFault),
-    /// The programme cannot be mixed, or its file is too long.
+    /// The programme cannot be mixed, or its file or list is too long.
     #[error("the programme cannot be rendered: {0}")]
     Mix(MixFault),
-    /// The recording at this index cannot be laid on a track.
-    #[error("recording {0} is not laid: {1}")]
+    /// No script lines can be made of the input at this index.
+    #[error("input {0} has no script lines: {1}")]
     Lay(usize, LayFault),
-    /// No script lines can be made of the cue points of the recording at this index.
-    #[error("recording {0} has no script lines: {1}")]
-    Cues(usize, CuesFault),
-    /// The text is not a label track that can be read.
-    #[error("the labels are refused: {0}")]
-    Labels(LabelsFault),
-    /// The edit decision list cannot be made.
-    #[error("no edit decision list: {0}")]
-    EditList(EdlFault),
     /// The output failed.
     #[error("the output cannot be written")]
     Write,
@@ -136,8 +128,8 @@ pub enum CliFault {
     /// The format is not one in which wave files, or edit decision lists, are written.
     #[error("{0}")]
     Format(FormatFault),
-    /// The script is refused; the fault has the line.
-    #[error("the script is refused: {0}")]
+    /// The script, or a label track, is not accepted; the fault has the line.
+    #[error("the script is not accepted: {0}")]
     Script(ScriptFault),
     /// The bytes that must describe what another editor has are no such message, or the message of
     /// a log is too long.
@@ -164,9 +156,6 @@ impl CliFault {
             CliFault::Source(_, fault) => fault.number(),
             CliFault::Mix(fault) => fault.number(),
             CliFault::Lay(_, fault) => fault.number(),
-            CliFault::Cues(_, fault) => fault.number(),
-            CliFault::Labels(fault) => fault.number(),
-            CliFault::EditList(fault) => fault.number(),
             CliFault::Write | CliFault::Print => 37,
             CliFault::Part(fault) => fault.number(),
             CliFault::Name(fault) => fault.number(),

@@ -7,13 +7,14 @@ ghost use Rattle.cli_calls.specs.Running.{lent, Ran};
 ghost use Rattle.cli_calls.specs.Writing.{Prints};
 
 use crate::command::{Command, Input, run};
-use crate::fault::CliFault;
+use crate::fault::{CliFault, LayFault};
 use crate::form::at_least_one;
 use crate::put::put_bytes;
 use crate::read::read_all;
 use crate::union::OneLog;
 use base_io::Latch;
 use mt_opcodec::Log;
+use mt_script::ScriptFault;
 use mt_sessionview::of_log;
 use std::alloc::Allocator;
 use std::io::{Read, Write};
@@ -108,7 +109,8 @@ impl<A: Allocator + Clone> Command<A, Vec<u8, A>> for ReadLabels {
         match label_script(alloc, at_least_one(self.rate), u64::from(self.line), &file) {
             Ok(text) => put_bytes(&text, output),
             Err(LabelsFault::Memory) => Err(CliFault::Memory),
-            Err(fault) => Err(CliFault::Labels(fault)),
+            Err(LabelsFault::BadLine(line)) => Err(CliFault::Script(ScriptFault::BadLine(line))),
+            Err(LabelsFault::TooManyLines) => Err(CliFault::Lay(0, LayFault::TooManyLines)),
         }
     }
 }
@@ -117,9 +119,9 @@ impl<A: Allocator + Clone> Command<A, Vec<u8, A>> for ReadLabels {
 /// and nothing else: the text of `text_labels::label_script` at a rate in frames per second (0
 /// counts as 1). The first line has the number `line` in the script.
 ///
-/// Errors, in this order: `Read` (45) with index 0 if the input's latch has failed; `Labels` with
-/// the first line that is no label (41), or if a line of the script would have a number over
-/// 4,294,967,295 (35); `Write` (37) if the output's latch has failed (the output then holds a
+/// Errors, in this order: `Read` (45) with index 0 if the input's latch has failed; `Script` with
+/// the first line that is no label (41), or `Lay` with index 0 if the first line of a marker would
+/// have a number over 4,294,967,295 (35); `Write` (37) if the output's latch has failed (the output then holds a
 /// prefix of the text); `Memory` (0) if an allocation failed.
 pub fn read_labels<A: Allocator + Clone, R: Read, W: Write>(
     alloc: A,

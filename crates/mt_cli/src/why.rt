@@ -18,8 +18,6 @@ use mt_sync::{SyncFault, TalkFault};
 use std::alloc::Global;
 use std::fs;
 use std::rt::Files;
-use text_cues::CuesFault;
-use text_labels::LabelsFault;
 
 /// The cause of a fault, as far as it is known from the words with which the command of this name
 /// was called, and from their files. None if an allocation fails.
@@ -179,6 +177,14 @@ impl<'w> Call<'_, 'w> {
         }
     }
 
+    // The name of the script, or of the label track that `labels` reads.
+    fn script(&self) -> &'w str {
+        match self.name {
+            "labels" => self.word("LOG"),
+            _ => self.word("SCRIPT"),
+        }
+    }
+
     // The name of the command's output.
     fn output(&self) -> &'w str {
         match self.words.get_str("OUT") {
@@ -206,9 +212,6 @@ fn cause_of<F: Files + AllocGlobal>(
         CliFault::Source(index, _) => { told(alloc, "recording ", call.recording(index)) }
         CliFault::Mix(fault) => mix_cause(rt, call, fault),
         CliFault::Lay(index, fault) => lay_cause(rt, call.input(call.inputs(), index), fault),
-        CliFault::Cues(index, fault) => cues_cause(rt, call.input(call.inputs(), index), fault),
-        CliFault::Labels(fault) => labels_cause(alloc, call.word("LOG"), fault),
-        CliFault::EditList(_) => told(alloc, "log ", call.word("LOG")),
         CliFault::Write => output_cause(alloc, call.output(), "cannot be written"),
         CliFault::Print => output_cause(alloc, STANDARD_OUTPUT, "cannot be written"),
         CliFault::Part(fault) => part_cause(alloc, call.output(), fault),
@@ -217,7 +220,7 @@ fn cause_of<F: Files + AllocGlobal>(
         CliFault::NoSuchItem(count) => found_cause(alloc, call.word("LOG"), count),
         CliFault::Head(fault) => told(alloc, "option --", head_option(fault)),
         CliFault::Format(_) => told(alloc, "option --", call.format_option()),
-        CliFault::Script(fault) => script_cause(alloc, call.word("SCRIPT"), fault),
+        CliFault::Script(fault) => script_cause(alloc, call.script(), fault),
         CliFault::Message(_) => messages_cause(alloc, call),
         CliFault::Sync(fault) => sync_cause(alloc, call, fault),
         CliFault::Net => told(alloc, "address ", call.word("ADDR")),
@@ -329,30 +332,13 @@ fn rate_cause<F: Files + AllocGlobal>(
     told(alloc, "source ", &text)
 }
 
-// Why a recording is not laid: its file, and also its digest and rate if it has another rate.
+// Why an input has no script lines: its file, and also its digest and rate if it is a recording of
+// another rate.
 fn lay_cause<F: Files + AllocGlobal>(rt: &F, name: &str, fault: LayFault) -> Option<String> {
     match fault {
         LayFault::RateDiffers => other_rate_cause(rt, name),
+        LayFault::TooManyLines => told(rt.alloc(), "script lines of ", name),
         _ => told(rt.alloc(), "recording ", name),
-    }
-}
-
-// Why a recording has no script lines: its file, and also its digest and rate if it has another
-// rate, or the index of the cue point at fault, counted from 0.
-fn cues_cause<F: Files + AllocGlobal>(rt: &F, name: &str, fault: CuesFault) -> Option<String> {
-    let alloc = rt.alloc();
-    match fault {
-        CuesFault::RateDiffers => other_rate_cause(rt, name),
-        CuesFault::TooLong(cue) => format!(in alloc; "recording {name} cue {cue}").ok(),
-        CuesFault::TooManyLines | CuesFault::Memory => told(alloc, "recording ", name),
-    }
-}
-
-// Why a label track is not read: its file, and its line at fault, counted from 1.
-fn labels_cause(alloc: Global, name: &str, fault: LabelsFault) -> Option<String> {
-    match fault {
-        LabelsFault::BadLine(line) => format!(in alloc; "labels {name} line {line}").ok(),
-        LabelsFault::TooManyLines | LabelsFault::Memory => told(alloc, "labels ", name),
     }
 }
 

@@ -48,7 +48,7 @@ module _ {A Z W : Type 0} (contents : W → Option (List ℕ)) (o : CueOptions) 
   fails_so : (old : Latch W) (fault : CliFault) → IsCuesCause (cues_by kept o headers.items) fault → MadeFails contents (CuesMake o headers) old old fault
   fails_so old cli.Memory cause = refl
   fails_so old (cli.Source index fault) cause = (makes_so (Err (cli.Source index fault)) cause, refl)
-  fails_so old (cli.Cues index fault) cause = (makes_so (Err (cli.Cues index fault)) cause, refl)
+  fails_so old (cli.Lay index fault) cause = (makes_so (Err (cli.Lay index fault)) cause, refl)
   fails_so old _ cause = absurd cause
 
   pub not_cued : (old : Latch W) (fault : CliFault) → IsCuesCause (cues_by kept o headers.items) fault → Wrote contents (CuesMake o headers) old old (Err fault)
