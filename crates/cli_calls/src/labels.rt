@@ -121,8 +121,8 @@ impl<A: Allocator + Clone> Command<A, Vec<u8, A>> for ReadLabels {
 ///
 /// Errors, in this order: `Read` (45) with index 0 if the input's latch has failed; `Script` with
 /// the first line that is no label (41), or `Lay` with index 0 if the first line of a marker would
-/// have a number over 4,294,967,295 (35); `Write` (37) if the output's latch has failed (the output then holds a
-/// prefix of the text); `Memory` (0) if an allocation failed.
+/// have a number over 4,294,967,295 (35); `Write` (37) if the output's latch has failed (the output
+/// then holds a prefix of the text); `Memory` (0) if an allocation failed.
 pub fn read_labels<A: Allocator + Clone, R: Read, W: Write>(
     alloc: A,
     rate: u32,
