@@ -36,8 +36,10 @@ done | sort -u > "$given"
 while read -r number type name; do
   # the variants of PartFault are causes of Write; the table does not name them
   [ "$type" != Part ] || name=Write
-  # a script with too many lines is a cause of TooLong
-  [ "$type$name" != CuesTooManyLines ] || name=TooLong
+  # a script with too many lines, and a list with too many events, are causes of TooLong
+  case $name in
+    TooManyLines | TooManyEvents) name=TooLong ;;
+  esac
   grep -q "^$number \(.*, \)\{0,1\}\($type\)\{0,1\}$name\(, .*\)\{0,1\}$" "$written" || {
     echo "${type}Fault has $name under $number, and the table has not"
     exit 1

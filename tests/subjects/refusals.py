@@ -6,7 +6,7 @@ from subjects.command_lines import STATUS
 READ = (
     "45 Read: an input cannot be opened or read\n"
     "Check that each file exists, is not a folder, and may be read; `--why` names the file. `radio "
-    "merge --new LOG` creates an empty log. `serve` and `meet`: a conversation that broke off or "
+    "new LOG` creates an empty log. `serve` and `meet`: a conversation that broke off or "
     "timed out is 45, 37 or 49; meet again.\n"
 )
 case("explain_a_number", ["explain", "45"], stdout=READ)
